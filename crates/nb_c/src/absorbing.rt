@@ -1,10 +1,7 @@
 //! Tables of other stations, taken in by a station.
-ghost use Rattle.std.specs.Prelude.{Err};
 ghost use Rattle.nb_calls.specs.Absorbing.{AbsorbsInto};
-ghost use Rattle.nb_calls.specs.Outputs.{Answers, lent};
-ghost use Rattle.nb_calls.specs.Stations.{OnStation};
-ghost use Rattle.nb_calls.specs.declared.output.Refusal.TheVariants.{Fault};
-ghost use Rattle.nb_calls.specs.declared.statuses.TheConstants.{NO_STATION};
+ghost use Rattle.nb_calls.specs.Outputs.{lent};
+ghost use Rattle.nb_calls.specs.Stations.{OnLent};
 
 use nb_calls::absorbing::absorb_saved;
 use nb_calls::handle::{NbtStation, put_back, taken};
@@ -26,11 +23,8 @@ pub extern "C" fn nbt_station_absorb(
     used: &mut usize,
     at: &mut usize,
 ) -> u32
-    ensures { OnStation station.old station.new
-        (λ m after. AbsorbsInto m moment table.now after (lent into.old used.old at.old)
-        (lent into.new used.new at.new) result)
-        (Answers (Err (Fault NO_STATION)) (lent into.old used.old at.old)
-        (lent into.new used.new at.new) result) }
+    ensures { OnLent station.old station.new (λ m. AbsorbsInto m moment table.now)
+        (lent into.old used.old at.old) (lent into.new used.new at.new) result }
 {
     match taken(alloc, station) {
         None => NO_STATION,

@@ -44,12 +44,8 @@ pub extern "C" fn nbt_datagram_write(
     };
     let source = name_of_text(source);
     let destination = name_of_text(destination);
-    write_answer(
-        packets(alloc, sent, source, destination, contents),
-        into,
-        used,
-        at,
-    )
+    let answer = packets(alloc, sent, source, destination, contents);
+    write_answer(answer, into, used, at)
 }
 
 /// Writes an error packet with this key and this code.
@@ -91,10 +87,6 @@ pub extern "C" fn nbt_datagram_query(
         (lent into.old used.old at.old) (lent into.new used.new at.new) result }
 {
     let key = key_from(identifier, address, port);
-    write_answer(
-        query_of(alloc, packet_type, key, name_of_text(name)),
-        into,
-        used,
-        at,
-    )
+    let answer = query_of(alloc, packet_type, key, name_of_text(name));
+    write_answer(answer, into, used, at)
 }

@@ -6,9 +6,10 @@ ghost use Rattle.nb_calls.specs.ServiceParts.{ReadsAddress, ReadsDomain, ReadsNo
 
 use nb_calls::output::fill;
 use nb_calls::service_parts::{
-    NbtServiceAddress, NbtServiceNode, NbtServiceUnit, address_at, domain_at, node_at, unit_at,
+    NbtServiceAddress, NbtServiceNode, NbtServiceUnit, address_at, domain_by, node_at, unit_at,
     write_spelling,
 };
+use nb_names::NameReader;
 
 /// Reads the entry of a number, counted from 0, of RDATA of a type. No memory is taken.
 ///
@@ -74,5 +75,6 @@ pub extern "C" fn nbt_service_domain(
     ensures { Writes (ReadsDomain payload.now place length) (lent into.old used.old at.old)
         (lent into.new used.new at.new) result }
 {
-    write_spelling(domain_at(payload, place, length), into, used, at)
+    let names = NameReader::of(payload, &mut []);
+    write_spelling(domain_by(&names, place, length), into, used, at)
 }

@@ -1,13 +1,12 @@
 //! Stations: made of names, shown the clock, saved, listed and given back.
 #![tactic(auto, using(nb_calls::proofs::AnswerLemmas::answered))]
 
-ghost use Rattle.std.specs.Prelude.{◌≡◌, ◌≢◌, Err};
+ghost use Rattle.std.specs.Prelude.{◌≡◌, ◌≢◌};
 ghost use Rattle.nb_table.specs.Saved.{saved as saved_bytes};
 ghost use Rattle.nb_member.specs.Listing.{listing};
 ghost use Rattle.nb_member.specs.Member.{contents};
-ghost use Rattle.nb_calls.specs.Outputs.{Answers, lent};
-ghost use Rattle.nb_calls.specs.Stations.{Creates, OnStation, Ticks, WritesOf};
-ghost use Rattle.nb_calls.specs.declared.output.Refusal.TheVariants.{Fault};
+ghost use Rattle.nb_calls.specs.Outputs.{lent};
+ghost use Rattle.nb_calls.specs.Stations.{Creates, OnLent, OnStation, Ticks, WritesOf};
 ghost use Rattle.nb_calls.specs.declared.statuses.TheConstants.{DONE, NO_STATION};
 ghost use denote.RawPtr.{null_ptr};
 
@@ -81,11 +80,9 @@ pub extern "C" fn nbt_station_save(
     into: &mut [u8],
     used: &mut usize,
 ) -> u32
-    ensures { OnStation station.old station.new
-        (λ m after. WritesOf (saved_bytes (contents m)) m after (lent into.old used.old 0)
-        (lent into.new used.new 0) result)
-        (Answers (Err (Fault NO_STATION)) (lent into.old used.old 0)
-        (lent into.new used.new 0) result) }
+    ensures { OnLent station.old station.new
+        (λ m. WritesOf (saved_bytes (contents m)) m)
+        (lent into.old used.old 0) (lent into.new used.new 0) result }
 {
     match taken(alloc, station) {
         None => NO_STATION,
@@ -107,11 +104,9 @@ pub extern "C" fn nbt_station_list(
     into: &mut [u8],
     used: &mut usize,
 ) -> u32
-    ensures { OnStation station.old station.new
-        (λ m after. WritesOf (listing (contents m)) m after (lent into.old used.old 0)
-        (lent into.new used.new 0) result)
-        (Answers (Err (Fault NO_STATION)) (lent into.old used.old 0)
-        (lent into.new used.new 0) result) }
+    ensures { OnLent station.old station.new
+        (λ m. WritesOf (listing (contents m)) m)
+        (lent into.old used.old 0) (lent into.new used.new 0) result }
 {
     match taken(alloc, station) {
         None => NO_STATION,

@@ -26,12 +26,8 @@ pub extern "C" fn nbt_table_merge(
     ensures { Writes (Merges first.now second.now (limits_with keys per_source 65535))
         (lent into.old used.old at.old) (lent into.new used.new at.new) result }
 {
-    write_answer(
-        merged(alloc, first, second, keys, per_source),
-        into,
-        used,
-        at,
-    )
+    let answer = merged(alloc, first, second, keys, per_source);
+    write_answer(answer, into, used, at)
 }
 
 /// Writes the lines of a saved table's keys, as `nbt list` prints them.

@@ -1,8 +1,6 @@
 -- What a member hands over of another table is what was said of it before.
-use Rattle.nb_calls.proofs.Common.{◌≡◌, ℕ, ◌≤◌, List, length, Result, Ok, Err, IfOk, subst, sym, DatagramParts, Contents, NoMemory, of_memory}
-use Rattle.nb_member.specs.Member.{MemberValue}
+use Rattle.nb_calls.proofs.Common.{◌≡◌, ℕ, ◌≤◌, List, length, Result, Ok, Err, IfOk, subst, sym, DatagramParts, Contents, NoMemory, of_memory, MemberValue, Hears, hears, lacks, Joined, done, all_heard}
 use Rattle.nb_member.specs.Taking.{Absorbs, Previews}
-use Rattle.nb_calls.specs.Absorbing.{Hears, hears, lacks, Joined, done, all_heard}
 
 -- the bytes of what it would hand over
 pub hears_all : (m : MemberValue) (other : Contents) (datagrams : List DatagramParts) (told : Result (List ℕ) NoMemory)

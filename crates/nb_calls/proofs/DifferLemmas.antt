@@ -1,15 +1,13 @@
 -- The least of all keys at which two tables differ is found among the keys of both.
-use Rattle.nb_calls.proofs.Common.{◌≡◌, ◌≢◌, ◌∙◌, ◌||◌, Bool, true, false, List, [], ◌∷◌, Option, Some, None, is_some, Ok, inl, inr, ◌⊎◌, refl, sym, ap, subst, true≢false, ⊤, list_any, Key, Contents, HasOneElse}
+use Rattle.nb_calls.proofs.Common.{◌≡◌, ◌≢◌, ◌∙◌, ◌||◌, Bool, true, false, List, [], ◌∷◌, Option, Some, None, is_some, Ok, inl, inr, ◌⊎◌, refl, sym, ap, subst, true≢false, ⊤, list_any, Key, Contents, HasOneElse, EntryValue, AreSameAt, IsLeastDifference, Differs, difference_of, lower_by, lower_of, Narrows, same, differs, NarrowsBy, at_none, at_one}
 use Rattle.std.specs.Cmp.{tied_itself}
 use Rattle.std.specs.FinMap as maps
 use Rattle.std.specs.Ordering.{eq_by_cmp, ordering_reverse}
 use Rattle.std.specs.declared.cmp.Ordering.{Ordering}
 use Rattle.std.specs.declared.cmp.Ordering.TheVariants.{Less, Equal, Greater}
 use Rattle.nb_datagram.specs.Key.{key_cmp, key_cmp_total, key_cmp_exact}
-use Rattle.nb_entries.specs.Entry.{EntryValue}
 use Rattle.nb_entries.specs.Shared.MapsLemmas.{one_key}
 use Rattle.nb_table.specs.Shared.TableLemmas.{same_table}
-use Rattle.nb_calls.specs.Tables.{AreSameAt, IsLeastDifference, Differs, difference_of, lower_by, lower_of, Narrows, same, differs, NarrowsBy, at_none, at_one}
 
 -- the key isn't below the least so far, of which there is one
 abbrev IsAbove : Option Key → Key → Type 0

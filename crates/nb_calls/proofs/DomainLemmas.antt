@@ -1,11 +1,6 @@
 -- A domain name in RDATA is answered by its one spelling, or by its one fault.
-use Rattle.nb_calls.proofs.Common.{◌≡◌, ◌≢◌, ◌∙◌, ◌==◌, ℕ, ◌+◌, ◌-◌, ◌≤◌, true, false, List, Option, Some, None, Ok, Err, refl, ap, arith, sym, eq-eqb, eqb-true, not-false, not, SomeIff, Followed, spelling, NameAt, domain_no_fault, one_domain_fault, domain_there, of_domain, DomainFails, Refusal, HasOne}
+use Rattle.nb_calls.proofs.Common.{◌≡◌, ◌≢◌, ◌∙◌, ◌==◌, ℕ, ◌+◌, ◌-◌, ◌≤◌, true, false, List, Option, Some, None, Ok, Err, refl, ap, arith, sym, eq-eqb, eqb-true, not-false, not, SomeIff, Followed, spelling, NameAt, domain_no_fault, one_domain_fault, domain_there, of_domain, DomainFails, Refusal, HasOne, one_reading, ServiceFault, NS, ReadsDomain, service_refusal}
 use Rattle.std.specs.Option.{option_eq}
-use Rattle.nb_names.proofs.LabelsLemmas.{one_reading}
-use Rattle.nb_service.specs.declared.fault.ServiceFault.{ServiceFault}
-use Rattle.nb_service.specs.declared.kinds.TheConstants.{NS}
-use Rattle.nb_calls.specs.ServiceParts.{ReadsDomain}
-use Rattle.nb_calls.specs.Statuses.{service_refusal}
 
 -- where the bytes up to what follows a name aren't so many, it ends elsewhere
 pub ends_elsewhere : (rest : Option ℕ) (next at size : ℕ) → SomeIff rest (at ≤ next) (next - at)

@@ -1,10 +1,9 @@
 -- Of a payload of port 137 one run of items is answered, with the names in their RDATA.
-use Rattle.nb_calls.proofs.Common.{◌≡◌, ◌∙◌, ℕ, ◌+◌, ◌<◌, ◌≤◌, ◌≢◌, List, [], ◌∷◌, ◌++◌, length, take, drop, set, min, Ok, Err, inl, inr, refl, ap, sym, subst, arith, length-append, cases_lt, drop-drop, drop-set-lt, length-set, length-take-le, take-append-drop, take_more_set, Refusal, HasOne}
+use Rattle.nb_calls.proofs.Common.{◌≡◌, ◌∙◌, ℕ, ◌+◌, ◌<◌, ◌≤◌, ◌≢◌, List, [], ◌∷◌, ◌++◌, length, take, drop, set, min, Ok, Err, inl, inr, refl, ap, sym, subst, arith, length-append, cases_lt, drop-drop, drop-set-lt, length-set, length-take-le, take-append-drop, take_more_set, Refusal, HasOne, FilledFront, room_of, ReadsEntries, ReadsEntry, ReadsServer, Run, begins, goes_on, ReadsItem}
 use Rattle.nb_calls.specs.declared.service_entries.NbtServiceEntry.{NbtServiceEntry}
 use Rattle.nb_calls.specs.declared.service_entries.TheConstants.{MOST_ITEMS}
 use Rattle.nb_calls.specs.declared.service_reading.NbtServiceItem.{NbtServiceItem}
-use Rattle.nb_calls.specs.ServiceParts.{Ends, FilledFront, room_of, ReadsEntries, ReadsEntry, ReadsServer, Run, begins, goes_on}
-use Rattle.nb_calls.specs.Services.{ReadsItem}
+use Rattle.nb_calls.specs.ServiceParts.{Ends}
 use Rattle.nb_calls.proofs.DomainLemmas.{one_domain}
 
 -- ---- one item

@@ -1,10 +1,9 @@
 -- What is asked to be written on port 139 has one answer.
-use Rattle.nb_calls.proofs.Common.{◌≡◌, ◌==◌, ◌∙◌, ℕ, List, if◌then◌else◌, refl, sym, ap, subst, arith, HasOneElse}
+use Rattle.nb_calls.proofs.Common.{◌≡◌, ◌==◌, ◌∙◌, ℕ, List, if◌then◌else◌, refl, sym, ap, subst, arith, HasOneElse, Parsed, Parses, WritesPacket, unknown_type, judged, frame, unless_faulty}
 use Rattle.nb_session.specs.declared.packet.Kind.{Kind}
 use Rattle.nb_session.specs.declared.packet.Kind.TheVariants.{Message, Request, Positive, Negative, Retarget, Keepalive}
 use Rattle.nb_session.specs.Header.{type_of}
-use Rattle.nb_session.specs.Parsing.{Parsed, Parses}
-use Rattle.nb_calls.specs.Sessions.{WritesPacket, unknown_type, too_long, lacks, judged, frame, unless_faulty}
+use Rattle.nb_calls.specs.Sessions.{too_long, lacks}
 
 -- a kind by its number, any other number being that of a message
 kind_with : ℕ → Kind

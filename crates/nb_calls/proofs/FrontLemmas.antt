@@ -1,10 +1,9 @@
 -- The names at the front of a payload of port 138 stand at the places that are answered.
-use Rattle.nb_calls.proofs.Common.{◌≡◌, ◌∙◌, ℕ, ◌+◌, ◌-◌, ◌≤◌, List, length, take, drop, Option, Some, ap, sym, subst, arith, length-take, take-take, drop-take, Refused, StandsAt, NameAt, NetbiosName, labels_of_name, name_bytes}
-use Rattle.nb_names.proofs.LabelsLemmas.{next_within, spelled_there}
+use Rattle.nb_calls.proofs.Common.{◌≡◌, ◌∙◌, ℕ, ◌+◌, ◌-◌, ◌≤◌, List, length, take, drop, Option, Some, ap, sym, subst, arith, length-take, take-take, drop-take, Refused, StandsAt, NameAt, NetbiosName, labels_of_name, name_bytes, next_within, spelled_there, front_places, places_after}
 use Rattle.nb_datagram.specs.declared.front.FragmentFront.{FragmentFront}
 use Rattle.nb_datagram.specs.declared.front.Front.{Front}
 use Rattle.nb_datagram.specs.Fronts.{FragmentStands, HasFront, NamesStand, RestStands, of_fragment, of_another, no_name, source_alone, both_names}
-use Rattle.nb_calls.specs.Datagrams.{front_places, places_after, numbers}
+use Rattle.nb_calls.specs.Datagrams.{numbers}
 
 -- a name that stands in the first bytes of a payload stands in all of it, and is followed there
 stands_whole : (payload : List ℕ) (size at : ℕ) (name : NetbiosName) (next : ℕ)
@@ -59,3 +58,5 @@ module _ (payload : List ℕ) (front : Front) (fragment : FragmentFront) (name :
   destination_stands named =
       subst (λ (r : Option FragmentFront). StandsAt payload (places_after front r).destination (name_bytes name)) (sym is)
       (destination_there payload front (14 + stands.size) fragment.offset fragment.source fragment.destination name stands.names named)
+
+pub ruleset fronts = (source_stands, destination_stands)

@@ -1,9 +1,7 @@
 -- How long the packets of a datagram are.
-use Rattle.nb_calls.proofs.Common.{◌≡◌, ◌∙◌, ◌<◌, ◌≤◌, ◌+◌, ◌-◌, ◌*◌, ◌↔◌, IsTrue, ℕ, List, min, length, drop, ap, arith, length-append, slice_range, nat_tests, length-take, length-drop, DatagramParts, FragmentParts, name_bytes}
+use Rattle.nb_calls.proofs.Common.{◌≡◌, ◌∙◌, ◌<◌, ◌≤◌, ◌+◌, ◌-◌, ◌*◌, ◌↔◌, IsTrue, ℕ, List, min, length, drop, ap, arith, length-append, slice_range, nat_tests, length-take, length-drop, DatagramParts, FragmentParts, name_bytes, IsKey, are_long, packet_of}
 use Rattle.std.proofs.Math.Nat.{add-mul, one-mul}
-use Rattle.nb_datagram.specs.Header.{IsKey}
 use Rattle.nb_datagram.specs.Pieces.{piece}
-use Rattle.nb_calls.specs.Cutting.{are_long, packet_of}
 
 packet_length : (f : FragmentParts) → IsKey f.key
     → length (packet_of f) ≡ 14 + (length (name_bytes f.source) + length (name_bytes f.destination) + length f.bytes)
@@ -43,3 +41,5 @@ first_is_longest d most j key =
     let first = first_length d most in
     let short = piece_length d most j in
     omega (arith, whole, other, first, short)
+
+pub ruleset lengths = (first_is_long, first_is_longest)

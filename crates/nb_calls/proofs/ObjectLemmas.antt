@@ -1,14 +1,11 @@
 -- What is made of a payload is all that is answered of it; and what a call on a station does.
-use Rattle.nb_calls.proofs.Common.{◌≡◌, ℕ, List, Result, Ok, Err, IfOk, sym, ap, ◌∙◌, [], ◌∷◌, ◌++◌, length, slice_index_or, refl, arith, subst, NoMemory, Memory, Answers, HasOneElse, Lent, Writes, of_memory}
+use Rattle.nb_calls.proofs.Common.{◌≡◌, ℕ, List, Result, Ok, Err, IfOk, sym, ap, ◌∙◌, [], ◌∷◌, ◌++◌, length, slice_index_or, refl, arith, subst, NoMemory, Memory, Answers, HasOneElse, Lent, Writes, of_memory, IsObject, Tells, MemberValue, OnStation}
 use Rattle.nb_telling.specs.Telling.{Field}
 use Rattle.nb_telling.specs.Tokens.{object_of}
-use Rattle.nb_text.specs.Tells.{IsObject, Tells}
 use Rattle.nb_calls.specs.Showing.{Made}
 use denote.RawPtr.{Ptr, InBlock}
-use Rattle.nb_member.specs.Member.{MemberValue}
 use Rattle.nb_calls.specs.declared.handle.NbtStation.{NbtStation}
 use Rattle.nb_calls.specs.Handles.{IsHere, IsNone}
-use Rattle.nb_calls.specs.Stations.{OnStation}
 
 -- a payload has one list of fields for the port
 abbrev OneList : List ℕ → ℕ → Type 0

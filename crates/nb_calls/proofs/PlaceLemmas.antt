@@ -1,11 +1,8 @@
 -- The parts of a packet stand at the places that are answered of them.
-use Rattle.nb_calls.proofs.Common.{◌≡◌, ◌∙◌, ℕ, List, [], ◌∷◌, ◌++◌, length, refl, sym, ap, subst, arith, append_assoc, length-append, StandsAt, FragmentParts, named_length, type_of, QueryPacket, IsPacket, name_bytes}
+use Rattle.nb_calls.proofs.Common.{◌≡◌, ◌∙◌, ℕ, List, [], ◌∷◌, ◌++◌, length, refl, sym, ap, subst, arith, append_assoc, length-append, StandsAt, FragmentParts, named_length, type_of, QueryPacket, IsPacket, name_bytes, stands_at_seam, header_bytes, error_type, query_type, fragment_places, error_places, query_places}
 use Rattle.std.specs.Int.{w16, to_be_bytes}
-use Rattle.nb_names.proofs.LabelsLemmas.{stands_at_seam}
 use Rattle.nb_datagram.specs.declared.packet.Packet.TheVariants.{Direct, Error, Query}
 use Rattle.nb_datagram.specs.declared.packet.ErrorPacket.{ErrorPacket}
-use Rattle.nb_datagram.specs.Header.{header_bytes, error_type, query_type}
-use Rattle.nb_calls.specs.Datagrams.{fragment_places, error_places, query_places}
 
 stands : (whole front bytes rest : List ℕ) (at : ℕ) → whole ≡ front ++ (bytes ++ rest) → at ≡ length front → StandsAt whole at bytes
 stands whole front bytes rest at w e =

@@ -1,12 +1,10 @@
 -- Of a response that is asked for one thing is answered.
-use Rattle.nb_calls.proofs.Common.{◌≡◌, ℕ, List, length, Result, Ok, Err, refl, ap, subst, arith, Refused, TextFault, NameAt, ResourceData, Refusal, FaultAt, NAME_TRAILING_BYTES, NO_ROLE, HasOneElse, OrMemory}
-use Rattle.nb_names.specs.declared.fault.NameFault.{NameFault}
+use Rattle.nb_calls.proofs.Common.{◌≡◌, ℕ, List, length, Result, Ok, Err, refl, ap, subst, arith, Refused, TextFault, NameAt, ResourceData, Refusal, FaultAt, NAME_TRAILING_BYTES, NO_ROLE, HasOneElse, OrMemory, NameFault, IsDomain, whole, no_name, bytes_trail, IsRdata, domain, domain_data, Responds, no_name_text, named, response_answer, name_refusal, text_refusal}
 use Rattle.nb_names.specs.NameFaults.{FaultAt as NameFaultAt}
 use Rattle.nb_calls.proofs.AnswerLemmas.{one_expected}
 use Rattle.nb_calls.proofs.NameLemmas.{TextLaws}
 use Rattle.nb_calls.specs.declared.service.Answered.{Answered}
-use Rattle.nb_calls.specs.Responses.{IsDomain, whole, no_name, bytes_trail, IsRdata, plain, too_long, domain, domain_data, Responds, no_name_text, named, response_answer}
-use Rattle.nb_calls.specs.Statuses.{name_refusal, text_refusal}
+use Rattle.nb_calls.specs.Responses.{plain, too_long}
 
 -- a spelling has one domain name or one fault
 pub record DomainLaws (bytes : List ℕ) : Type 0 where

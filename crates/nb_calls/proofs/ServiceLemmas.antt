@@ -1,7 +1,6 @@
 -- Of a payload of port 137: its header, and each item, of which one thing is answered.
-use Rattle.nb_calls.proofs.Common.{◌≡◌, ◌∙◌, ℕ, ◌<◌, ◌≤◌, List, length, Option, Some, None, Ok, Err, refl, ap, sym, subst, arith, MatchOption, PacketHeader, HasHeader, seen_extent, HasOutline, item_count, Refusal, HasOne}
+use Rattle.nb_calls.proofs.Common.{◌≡◌, ◌∙◌, ℕ, ◌<◌, ◌≤◌, List, length, Option, Some, None, Ok, Err, refl, ap, sym, subst, arith, MatchOption, PacketHeader, HasHeader, seen_extent, HasOutline, item_count, Refusal, HasOne, ServiceFault, ReadsItem, headless, uncounted, fails, stands, section_number, numbers, item_numbers, cut_header, service_refusal}
 use Rattle.nb_service.specs.declared.record.Extent.{Extent}
-use Rattle.nb_service.specs.declared.fault.ServiceFault.{ServiceFault}
 use Rattle.nb_service.specs.declared.fault.ServiceFault.TheVariants.{Truncated}
 use Rattle.nb_service.specs.declared.record.Fields.{Fields}
 use Rattle.nb_service.specs.declared.limits.TheConstants.{HEADER_LENGTH}
@@ -9,8 +8,6 @@ use Rattle.nb_service.specs.declared.packet.Section.{Section}
 use Rattle.nb_service.specs.declared.seen.Seen.{Seen}
 use Rattle.nb_service.specs.Items.{PacketItem, asked, told, ItemAt, ItemFails, IsExtent, Sees}
 use Rattle.nb_service.proofs.WalkedLemmas.{fails_counted}
-use Rattle.nb_calls.specs.Services.{ReadsItem, headless, uncounted, fails, stands, section_number, numbers, item_numbers, cut_header}
-use Rattle.nb_calls.specs.Statuses.{service_refusal}
 
 -- a payload has one header
 pub record HeaderLaws (payload : List ℕ) : Type 0 where

@@ -1,9 +1,8 @@
 -- Texts between spaces, and the names of a new station.
-use Rattle.nb_calls.proofs.Common.{◌≡◌, ◌==◌, ◌+◌, ℕ, Bool, true, false, List, [], ◌∷◌, ◌++◌, length, Result, Ok, Err, refl, sym, ap, subst, inl, inr, arith, slice_index_or, length-append, All, Contains, slice_split, onto_first, join_with_byte, cases_eq, nat_tests, TextFault, NetbiosName, Refusal, Memory, Fault, FaultAt}
+use Rattle.nb_calls.proofs.Common.{◌≡◌, ◌==◌, ◌+◌, ℕ, Bool, true, false, List, [], ◌∷◌, ◌++◌, length, Result, Ok, Err, refl, sym, ap, subst, inl, inr, arith, slice_index_or, length-append, All, Contains, slice_split, onto_first, join_with_byte, cases_eq, nat_tests, TextFault, NetbiosName, Refusal, Memory, Fault, FaultAt, AreNames, all, bad, present, too_many, more, bad_name, BeginsWithName, Names, NamesText, is_space, texts_in}
 use Rattle.std.proofs.lemmas.List.Elements.{All-contains_itself, All-cons, All-nil, All-head, All-tail}
 use Rattle.std.proofs.lemmas.Map.Made.{Contains-tail}
 use Rattle.std.proofs.lemmas.List.Splits.{slice_split_at, slice_split_none, slice_split-cons_yes, slice_split-cons_no, join_with_byte-slice_split}
-use Rattle.nb_calls.specs.Stations.{AreNames, all, bad, present, too_many, more, bad_name, BeginsWithName, Names, NamesText, is_space, texts_in}
 use Rattle.nb_calls.proofs.NameLemmas.{TextLaws}
 
 -- ---- texts between spaces

@@ -1,16 +1,12 @@
 -- What stands in an input is one table or one fault, also under limits; what is told of one table, and of two, is one.
-use Rattle.nb_calls.proofs.Common.{◌≡◌, ◌≢◌, ℕ, ◌≤◌, List, Result, Ok, Err, Refusal, OrMemory, refl, subst, arith, Key, LoadFault, Contents, FewOfEach, Limits, TableValue, IsReadAs, LoadFails, ill_formed, too_long, full_source, full, no_memory, IsRead, AllShort, ap, Memory, HasOneElse, IfOk, NO_ROLE, NoMemory, SECOND, of_memory, saved, sym, ◌∙◌, Fits, IsRefused}
+use Rattle.nb_calls.proofs.Common.{◌≡◌, ◌≢◌, ℕ, ◌≤◌, List, Result, Ok, Err, Refusal, OrMemory, refl, subst, arith, Key, LoadFault, Contents, FewOfEach, Limits, TableValue, IsReadAs, LoadFails, ill_formed, too_long, full_source, full, no_memory, IsRead, AllShort, ap, Memory, HasOneElse, IfOk, NO_ROLE, NoMemory, SECOND, of_memory, saved, sym, ◌∙◌, Fits, IsRefused, EntryValue, load_refusal, IsLoaded, OfTwo, first_fails, second_fails, both, OfOne, not_read, read, widest, Joins, table_refusal}
 use Rattle.std.specs.FinMap as maps
-use Rattle.nb_entries.specs.Entry.{EntryValue}
 use Rattle.nb_entries.specs.SavedReading.{Outcome}
 use Rattle.nb_entries.specs.declared.saved.LoadFault.TheVariants as loads
-use Rattle.nb_calls.specs.Statuses.{load_refusal}
-use Rattle.nb_calls.specs.Tables.{IsLoaded, OfTwo, first_fails, second_fails, both, OfOne, not_read, read, widest, Joins}
 use Rattle.nb_table.specs.declared.fault.TableFault.{TableFault}
 use Rattle.nb_table.specs.declared.fault.TableFault.TheVariants as tables
 use Rattle.nb_table.specs.Join.{join}
 use Rattle.nb_calls.proofs.AnswerLemmas.{one_expected}
-use Rattle.nb_calls.specs.Stations.{table_refusal}
 
 -- what stands in an input is one
 pub record InputLaws (input : List ℕ) : Type 0 where

@@ -1,7 +1,6 @@
 -- Texts of names are ASCII, so what isn't UTF-8 leaves their form.
-use Rattle.nb_calls.proofs.Common.{◌≡◌, ◌⊎◌, inl, inr, ℕ, ◌<◌, ◌≤◌, List, [], ◌∷◌, ◌++◌, length, take, sym, subst, arith, cases_lt, nat_tests, take-take, length-take-le, append-nil, IsHexDigit, Item, plain, escaped, Items, no_item, more_items, ScopeText, no_label, more_labels, IsFormed, IsFront, IsBad}
+use Rattle.nb_calls.proofs.Common.{◌≡◌, ◌⊎◌, inl, inr, ℕ, ◌<◌, ◌≤◌, List, [], ◌∷◌, ◌++◌, length, take, sym, subst, arith, cases_lt, nat_tests, take-take, length-take-le, append-nil, IsHexDigit, Item, plain, escaped, Items, no_item, more_items, ScopeText, no_label, more_labels, IsFormed, IsFront, IsBad, take-append_seam}
 use Rattle.std.specs.Str.{IsAscii, IsUtf8, IsValidUpTo}
-use Rattle.std.proofs.Math.Seq.{take-append_seam}
 use Rattle.std.proofs.lemmas.Str.{IsUtf8-from_ascii, IsAscii-append, IsAscii-take}
 use Rattle.std.proofs.lemmas.Str.Ascii.{IsAscii-nil, IsAscii-cons}
 use Rattle.nb_names.proofs.PushingLemmas.{plain_one}

@@ -1,21 +1,8 @@
 -- What the call does that joins another station's table to a station's (our choice).
-use Rattle.std.specs.Prelude.{◌≡◌, ◌<◌, ◌≤◌, ℕ, List, ◌∷◌, ◌++◌, length, Result, Ok, Err}
-use Rattle.std.specs.Int.{w16, to_be_bytes}
-use Rattle.std.specs.List.{flat_map}
-use Rattle.nb_datagram.specs.Fragment.{DatagramParts}
-use Rattle.nb_datagram.specs.Packet.{type_of, name_bytes}
-use Rattle.nb_table.specs.declared.fault.TableFault.{TableFault}
-use Rattle.nb_entries.specs.declared.saved.LoadFault.{LoadFault}
-use Rattle.nb_table.specs.Contents.{Contents}
-use Rattle.nb_table.specs.Limits.{TableValue}
-use Rattle.nb_table.specs.Saved.{LoadFails, key_bytes}
-use Rattle.nb_table.specs.Merging.{IsRefused}
+use Rattle.nb_calls.specs.Common.{◌≡◌, ◌<◌, ◌≤◌, ℕ, List, ◌∷◌, ◌++◌, length, Result, Ok, Err, w16, to_be_bytes, flat_map, DatagramParts, type_of, name_bytes, TableFault, LoadFault, Contents, TableValue, LoadFails, key_bytes, IsRefused, MemberValue, contents, Absorbs, Previews, NO_ROLE}
 use Rattle.nb_member.specs.Events.{limits_of}
-use Rattle.nb_member.specs.Member.{MemberValue, contents}
-use Rattle.nb_member.specs.Taking.{Absorbs, Previews}
 use Rattle.nb_calls.specs.Outputs.{Answers, Lent}
 use Rattle.nb_calls.specs.Stations.{table_refusal}
-use Rattle.nb_calls.specs.declared.statuses.TheConstants.{NO_ROLE}
 use Rattle.nb_calls.specs.Statuses.{Refusal, Memory, load_refusal}
 use Rattle.nb_calls.specs.Tables.{IsLoaded}
 

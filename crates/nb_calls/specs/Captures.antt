@@ -1,11 +1,9 @@
 -- What the call on a line of a capture answers (our choice).
-use Rattle.std.specs.Prelude.{◌≡◌, ℕ, List, [], length, Option, Some, None, Result, Ok, Err, if◌then◌else◌}
+use Rattle.nb_calls.specs.Common.{◌≡◌, ℕ, List, [], length, Option, Some, None, Result, Ok, Err, if◌then◌else◌, Tick, LineFault, BLANK, PACKET, TICK}
 use Rattle.nb_capture.specs.Capture.{HasValue, SaysNothing, IsMalformed, NeedsMemory}
 use Rattle.nb_capture.specs.declared.line.Line.{Line}
-use Rattle.nb_capture.specs.declared.line.Line.TheVariants.{Packet, Tick}
-use Rattle.nb_capture.specs.declared.fault.LineFault.{LineFault}
+use Rattle.nb_capture.specs.declared.line.Line.TheVariants.{Packet}
 use Rattle.nb_calls.specs.declared.showing.NbtLine.{NbtLine}
-use Rattle.nb_calls.specs.declared.showing.TheConstants.{BLANK, PACKET, TICK}
 use Rattle.nb_calls.specs.declared.statuses.TheConstants as statuses
 use Rattle.nb_calls.specs.Outputs.{fits, put_into, put_status, refused_status}
 use Rattle.nb_calls.specs.Statuses.{Refusal, Memory, Fault, line_refusal}

@@ -1,19 +1,6 @@
 -- What the calls that write packets of port 138 answer (RFC 1002 sections 4.4.2 to 4.4.4).
-use Rattle.std.specs.Prelude.{◌==◌, ◌+◌, ◌%◌, ℕ, Bool, nat_lt, min, List, ◌++◌, length, Option, Some, None, Result, Ok, Err, if◌then◌else◌}
-use Rattle.std.specs.Int.{w16, w32, to_be_bytes}
-use Rattle.std.specs.List.{flat_map}
-use Rattle.nb_names.specs.declared.fault.TextFault.{TextFault}
-use Rattle.nb_names.specs.Name.{NetbiosName}
-use Rattle.nb_datagram.specs.declared.key.Key.{Key}
+use Rattle.nb_calls.specs.Common.{◌==◌, ◌+◌, ◌%◌, ℕ, Bool, nat_lt, min, List, ◌++◌, length, Option, Some, None, Result, Ok, Err, if◌then◌else◌, w16, w32, to_be_bytes, flat_map, TextFault, NetbiosName, Key, Unique, Group, Broadcast, MAX_LENGTH, DIRECT_HEADER_LENGTH, Direct, Error, Query, DatagramParts, FragmentParts, name_bytes, packet_bytes, pieces, Sent, UNKNOWN_TYPE, LONG_DATA, ZERO_PIECE, SOURCE_TEXT, DESTINATION_TEXT, NO_ROLE}
 use Rattle.nb_datagram.specs.declared.key.Kind.{Kind}
-use Rattle.nb_datagram.specs.declared.key.Kind.TheVariants.{Unique, Group, Broadcast}
-use Rattle.nb_datagram.specs.declared.limits.TheConstants.{MAX_LENGTH, DIRECT_HEADER_LENGTH}
-use Rattle.nb_datagram.specs.declared.packet.Packet.TheVariants.{Direct, Error, Query}
-use Rattle.nb_datagram.specs.Fragment.{DatagramParts, FragmentParts}
-use Rattle.nb_datagram.specs.Packet.{name_bytes, packet_bytes}
-use Rattle.nb_datagram.specs.Pieces.{pieces}
-use Rattle.nb_calls.specs.declared.cutting.Sent.{Sent}
-use Rattle.nb_calls.specs.declared.statuses.TheConstants.{UNKNOWN_TYPE, LONG_DATA, ZERO_PIECE, SOURCE_TEXT, DESTINATION_TEXT, NO_ROLE}
 use Rattle.nb_calls.specs.Names.{IsRead}
 use Rattle.nb_calls.specs.Outputs.{OrMemory}
 use Rattle.nb_calls.specs.Statuses.{Refusal, Fault, text_refusal}

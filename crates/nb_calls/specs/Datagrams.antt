@@ -1,24 +1,10 @@
 -- What the call that reads a payload of port 138 answers (RFC 1002 section 4.4). Places and lengths are in bytes of the
 -- payload.
-use Rattle.std.specs.Prelude.{◌≡◌, ℕ, ◌+◌, List, length, Result, Ok, Err, Option, Some, None}
-use Rattle.std.specs.Int.{w32, from_be_bytes}
-use Rattle.nb_datagram.specs.declared.fault.DatagramFault.{DatagramFault}
-use Rattle.nb_datagram.specs.declared.key.Key.{Key}
-use Rattle.nb_datagram.specs.declared.limits.TheConstants.{HEADER_LENGTH, DIRECT_HEADER_LENGTH}
-use Rattle.nb_datagram.specs.declared.packet.ErrorPacket.{ErrorPacket}
-use Rattle.nb_datagram.specs.declared.packet.Packet.TheVariants.{Direct, Error, Query}
+use Rattle.nb_calls.specs.Common.{◌≡◌, ℕ, ◌+◌, List, length, Result, Ok, Err, Option, Some, None, w32, from_be_bytes, DatagramFault, Key, HEADER_LENGTH, DIRECT_HEADER_LENGTH, ErrorPacket, Direct, Error, Query, FragmentParts, error_type, query_type, type_of, Packet, QueryPacket, IsPacket, name_bytes, NetbiosName, FragmentFront, Front, HasFront, LacksHeader, TRUNCATED}
 use Rattle.nb_datagram.specs.DatagramFaults.{PacketFails}
-use Rattle.nb_datagram.specs.Fragment.{FragmentParts}
-use Rattle.nb_datagram.specs.Header.{error_type, query_type}
-use Rattle.nb_datagram.specs.Packet.{type_of, Packet, QueryPacket, IsPacket, name_bytes}
 use Rattle.nb_calls.specs.declared.datagrams.NbtDatagram.{NbtDatagram}
 use Rattle.nb_calls.specs.Statuses.{Refusal, datagram_refusal, FaultAt}
-use Rattle.nb_names.specs.Name.{NetbiosName}
-use Rattle.nb_datagram.specs.declared.front.FragmentFront.{FragmentFront}
-use Rattle.nb_datagram.specs.declared.front.Front.{Front}
-use Rattle.nb_datagram.specs.Fronts.{HasFront, LacksHeader}
 use Rattle.nb_calls.specs.declared.datagrams.NbtDatagramFront.{NbtDatagramFront}
-use Rattle.nb_calls.specs.declared.statuses.TheConstants.{TRUNCATED}
 
 -- header_places type flags key used: what the header says, and how many bytes the packet has
 abbrev pub header_places : ℕ → ℕ → Key → ℕ → NbtDatagram

@@ -1,9 +1,8 @@
 -- The pointers behind which stations stand (our choice): none stands behind null.
-use Rattle.std.specs.Prelude.{◌≡◌, Bool, MatchBool, refl}
+use Rattle.nb_calls.specs.Common.{◌≡◌, Bool, MatchBool, refl, MemberValue}
 use denote.RawPtr.{Ptr, null_ptr, InBlock}
 use Rattle.nb_calls.specs.declared.handle.Kept.{Kept}
 use Rattle.std.specs.Coded.{Coded, code_by}
-use Rattle.nb_member.specs.Member.{MemberValue}
 use Rattle.nb_member.specs.Code.Members.{member_code}
 
 -- a station stands behind the pointer

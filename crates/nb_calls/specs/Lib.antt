@@ -1,5 +1,6 @@
 pub mod Absorbing
 pub mod Captures
+pub mod Common
 pub mod Cutting
 pub mod Datagrams
 pub mod Handles

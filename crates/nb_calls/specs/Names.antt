@@ -1,15 +1,6 @@
 -- What the calls on names answer (RFC 1001 section 14.1, RFC 1002 section 4.1).
-use Rattle.std.specs.Prelude.{◌≡◌, ◌⊎◌, ◌<◌, ℕ, List, ◌++◌, length, drop, replicate, Result, Ok, Err}
-use Rattle.nb_names.specs.declared.fault.NameFault.{NameFault}
-use Rattle.nb_names.specs.declared.limits.TheConstants.{MAX_SPELLING}
-use Rattle.nb_names.specs.declared.reading.Pointers.TheVariants.{Refused}
-use Rattle.nb_names.specs.declared.fault.TextFault.{TextFault}
-use Rattle.nb_names.specs.DomainName.{spelling}
-use Rattle.nb_names.specs.Labels.{NameAt}
-use Rattle.nb_names.specs.Name.{NetbiosName, IsName, labels_of_name}
+use Rattle.nb_calls.specs.Common.{◌≡◌, ◌⊎◌, ◌<◌, ℕ, List, ◌++◌, length, drop, replicate, Result, Ok, Err, NameFault, MAX_SPELLING, Refused, TextFault, spelling, NameAt, NetbiosName, IsName, labels_of_name, IsText, IsFaultOf, written, NAME_TRAILING_BYTES, NO_ROLE}
 use Rattle.nb_names.specs.NameFaults.{NetbiosFaultAt}
-use Rattle.nb_names.specs.NameText.{IsText, IsFaultOf, written}
-use Rattle.nb_calls.specs.declared.statuses.TheConstants.{NAME_TRAILING_BYTES, NO_ROLE}
 use Rattle.nb_calls.specs.Outputs.{OrMemory}
 use Rattle.nb_calls.specs.Statuses.{Refusal, FaultAt, text_refusal, name_refusal}
 

@@ -1,10 +1,7 @@
 -- What a call does to what its caller lends it (our choice): the front of a buffer, how many bytes it has or wants, and
 -- the place of a fault.
-use Rattle.std.specs.Prelude.{◌≡◌, ◌≢◌, ◌⊎◌, ℕ, Bool, nat_le, List, ◌++◌, length, drop, Result, Ok, Err, if◌then◌else◌}
+use Rattle.nb_calls.specs.Common.{◌≡◌, ◌≢◌, ◌⊎◌, ℕ, Bool, nat_le, List, ◌++◌, length, drop, Result, Ok, Err, if◌then◌else◌, Refusal, Memory, Fault, FaultAt, DONE, NO_ROOM, NO_MEMORY}
 use Rattle.nb_streams.specs.declared.bytes.NoMemory.{NoMemory}
-use Rattle.nb_calls.specs.declared.output.Refusal.{Refusal}
-use Rattle.nb_calls.specs.declared.output.Refusal.TheVariants.{Memory, Fault, FaultAt}
-use Rattle.nb_calls.specs.declared.statuses.TheConstants.{DONE, NO_ROOM, NO_MEMORY}
 
 -- whether the bytes fit into a buffer
 abbrev pub fits : List ℕ → List ℕ → Bool

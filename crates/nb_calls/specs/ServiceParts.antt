@@ -1,27 +1,15 @@
 -- What the calls that read the parts of RDATA of port 137 answer (RFC 1002 sections 4.2.1.3, 4.2.13 and 4.2.18), and the call that
 -- reads many items, each with the name that is the RDATA of a record of type NS.
-use Rattle.std.specs.Prelude.{◌≡◌, ◌⊎◌, ℕ, ◌+◌, nat_le, List, length, take, Option, Some, None, Result, Ok, Err, if◌then◌else◌, ◌<◌, min, [], ◌∷◌, ◌++◌, drop}
-use Rattle.std.specs.Int.{w32, from_be_bytes}
-use Rattle.std.specs.List.{slice_get}
-use Rattle.nb_names.specs.declared.reading.Pointers.TheVariants.{Followed}
-use Rattle.nb_names.specs.DomainName.{spelling}
-use Rattle.nb_names.specs.Labels.{NameAt}
-use Rattle.nb_service.specs.declared.views.AddressEntry.{AddressEntry}
-use Rattle.nb_service.specs.declared.fault.ServiceFault.{ServiceFault}
+use Rattle.nb_calls.specs.Common.{◌≡◌, ◌⊎◌, ℕ, ◌+◌, nat_le, List, length, take, Option, Some, None, Result, Ok, Err, if◌then◌else◌, ◌<◌, min, [], ◌∷◌, ◌++◌, drop, w32, from_be_bytes, slice_get, Followed, spelling, NameAt, AddressEntry, ServiceFault, of_bytes, DomainFails, AreEntries, IsStatus, entries_of_data, status_of_data, NS, NbtServiceItem}
 use Rattle.nb_service.specs.declared.views.NodeName.{NodeName}
 use Rattle.nb_service.specs.declared.views.TheConstants.{UNIT_ID_LENGTH}
-use Rattle.nb_service.specs.Record.{of_bytes}
-use Rattle.nb_service.specs.ServiceFaults.{DomainFails}
-use Rattle.nb_service.specs.Views.{AreEntries, IsStatus, entries_of_data, status_of_data}
 use Rattle.nb_calls.specs.declared.service_parts.NbtServiceAddress.{NbtServiceAddress}
 use Rattle.nb_calls.specs.declared.service_parts.NbtServiceNode.{NbtServiceNode}
 use Rattle.nb_calls.specs.declared.service_parts.NbtServiceUnit.{NbtServiceUnit}
 use Rattle.nb_calls.specs.declared.statuses.TheConstants as statuses
 use Rattle.nb_calls.specs.Statuses.{Refusal, Fault, FaultAt, service_refusal}
-use Rattle.nb_service.specs.declared.kinds.TheConstants.{NS}
 use Rattle.nb_calls.specs.declared.service_entries.NbtServiceEntry.{NbtServiceEntry}
 use Rattle.nb_calls.specs.declared.service_entries.TheConstants.{MOST_ITEMS}
-use Rattle.nb_calls.specs.declared.service_reading.NbtServiceItem.{NbtServiceItem}
 use Rattle.nb_calls.specs.Names.{in_place}
 use Rattle.nb_calls.specs.Outputs.{at_refused, refused_status}
 use Rattle.nb_calls.specs.Services.{ReadsItem}

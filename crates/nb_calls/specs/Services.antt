@@ -1,20 +1,12 @@
 -- What the calls that read payloads of port 137 answer (RFC 1002 section 4.2.1). Places and lengths are in bytes of the
 -- payload.
-use Rattle.std.specs.Prelude.{◌≡◌, ℕ, ◌-◌, ◌<◌, ◌≤◌, List, length, is_some, Option, Some, None, Result, Ok, Err, if◌then◌else◌}
-use Rattle.nb_names.specs.DomainName.{spelling}
-use Rattle.nb_names.specs.NameText.{name_of_labels}
+use Rattle.nb_calls.specs.Common.{◌≡◌, ℕ, ◌-◌, ◌<◌, ◌≤◌, List, length, is_some, Option, Some, None, Result, Ok, Err, if◌then◌else◌, spelling, name_of_labels, ServiceFault, Answer, Authority, Additional, PacketHeader, HasHeader, HasOutline, PacketFails, item_count, NbtServiceItem}
 use Rattle.nb_service.specs.declared.record.Extent.{Extent}
-use Rattle.nb_service.specs.declared.fault.ServiceFault.{ServiceFault}
 use Rattle.nb_service.specs.declared.record.Fields.{Fields}
 use Rattle.nb_service.specs.declared.limits.TheConstants.{HEADER_LENGTH}
 use Rattle.nb_service.specs.declared.packet.Section.{Section}
-use Rattle.nb_service.specs.declared.packet.Section.TheVariants.{Answer, Authority, Additional}
-use Rattle.nb_service.specs.Header.{PacketHeader, HasHeader}
 use Rattle.nb_service.specs.Items.{PacketItem, section_of, fields_of, name_of, ItemAt, ItemFails, IsExtent}
-use Rattle.nb_service.specs.Packet.{HasOutline}
-use Rattle.nb_service.specs.ServiceFaults.{PacketFails, item_count}
 use Rattle.nb_calls.specs.declared.service_reading.NbtServiceHeader.{NbtServiceHeader}
-use Rattle.nb_calls.specs.declared.service_reading.NbtServiceItem.{NbtServiceItem}
 use Rattle.nb_calls.specs.declared.statuses.TheConstants as statuses
 use Rattle.nb_calls.specs.Names.{spelled_in_place}
 use Rattle.nb_calls.specs.Statuses.{Refusal, Fault, FaultAt, service_refusal}

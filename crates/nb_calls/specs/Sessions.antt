@@ -1,9 +1,6 @@
 -- What the calls that read packets of port 139 answer (RFC 1002 section 4.3).
-use Rattle.std.specs.Prelude.{◌≡◌, ℕ, ◌-◌, List, length, Result, Ok, Err, ◌<◌, ◌≤◌, ◌++◌}
-use Rattle.std.specs.Int.{w32, from_be_bytes}
-use Rattle.nb_names.specs.DomainName.{spelling}
-use Rattle.nb_names.specs.Name.{NetbiosName, labels_of_name}
-use Rattle.nb_session.specs.declared.limits.TheConstants.{HEADER_LENGTH, MAX_MESSAGE}
+use Rattle.nb_calls.specs.Common.{◌≡◌, ℕ, ◌-◌, List, length, Result, Ok, Err, ◌<◌, ◌≤◌, ◌++◌, w32, from_be_bytes, spelling, NetbiosName, labels_of_name, MAX_MESSAGE, MORE}
+use Rattle.nb_session.specs.declared.limits.TheConstants.{HEADER_LENGTH}
 use Rattle.nb_session.specs.declared.packet.Packet.TheVariants.{Message, Request, Positive, Negative, Retarget, Keepalive}
 use Rattle.nb_session.specs.declared.parsing.Parsed.TheVariants.{Whole, More, Refused}
 use Rattle.nb_session.specs.Header.{type_of, HasHeader, body_length, header_bytes}
@@ -17,7 +14,6 @@ use Rattle.nb_calls.specs.Names.{spelled_in_place}
 use Rattle.nb_calls.specs.Statuses.{Refusal, Memory, Fault, FaultAt, session_refusal}
 use Rattle.nb_session.specs.declared.parsing.Header.{Header}
 use Rattle.nb_calls.specs.declared.sessions.NbtSessionFront.{NbtSessionFront}
-use Rattle.nb_calls.specs.declared.statuses.TheConstants.{MORE}
 use Rattle.nb_session.specs.declared.packet.Kind.{Kind}
 
 -- answer_by told parsed: what is told of the packet that stands at the front, with the bytes it takes up, or why none does

@@ -1,10 +1,6 @@
 -- What the calls on a payload's text, its phrase and its object answer.
-use Rattle.std.specs.Prelude.{◌≡◌, ℕ, List, Result, Ok, Err}
-use Rattle.nb_text.specs.SaysPacket.{IsSaid}
-use Rattle.nb_text.specs.Shown.{Shown}
+use Rattle.nb_calls.specs.Common.{◌≡◌, ℕ, List, Result, Ok, Err, IsSaid, Shown, Refusal, Memory}
 use Rattle.nb_text.specs.Tells.{IsObject}
-use Rattle.nb_calls.specs.declared.output.Refusal.{Refusal}
-use Rattle.nb_calls.specs.declared.output.Refusal.TheVariants.{Memory}
 
 -- Made Is answer: a value is answered of which this holds, or memory ran out
 abbrev pub Made : (List ℕ → Type 0) → Result (List ℕ) Refusal → Type 0

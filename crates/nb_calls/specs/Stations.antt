@@ -1,17 +1,6 @@
 -- What the calls on a station do (RFC 1002 section 5.3; the form of what is written is our choice).
-use Rattle.std.specs.Prelude.{◌≡◌, ◌==◌, ◌⊎◌, ◌<◌, ◌≤◌, ◌+◌, ℕ, Bool, List, [], ◌∷◌, ◌++◌, length, drop, Contains, Option, Some, None, Result, Ok, Err}
-use Rattle.std.specs.Int.{w32, from_be_bytes}
-use Rattle.std.specs.List.{slice_split}
-use Rattle.nb_names.specs.declared.fault.TextFault.{TextFault}
+use Rattle.nb_calls.specs.Common.{◌≡◌, ◌==◌, ◌⊎◌, ◌<◌, ◌≤◌, ◌+◌, ℕ, Bool, List, [], ◌∷◌, ◌++◌, length, drop, Contains, Option, Some, None, Result, Ok, Err, w32, from_be_bytes, slice_split, TextFault, NetbiosName, DatagramFault, Key, ErrorPacket, Error, DatagramParts, type_of, name_bytes, packet_bytes, TableFault, MemberValue, contents, with_timed, after_clock, Takes}
 use Rattle.nb_names.specs.declared.fault.TextFault.TheVariants as texts
-use Rattle.nb_names.specs.Name.{NetbiosName}
-use Rattle.nb_datagram.specs.declared.fault.DatagramFault.{DatagramFault}
-use Rattle.nb_datagram.specs.declared.key.Key.{Key}
-use Rattle.nb_datagram.specs.declared.packet.ErrorPacket.{ErrorPacket}
-use Rattle.nb_datagram.specs.declared.packet.Packet.TheVariants.{Error}
-use Rattle.nb_datagram.specs.Fragment.{DatagramParts}
-use Rattle.nb_datagram.specs.Packet.{type_of, name_bytes, packet_bytes}
-use Rattle.nb_table.specs.declared.fault.TableFault.{TableFault}
 use Rattle.nb_table.specs.declared.fault.TableFault.TheVariants as tables
 use Rattle.nb_member.specs.declared.limits.TheConstants.{MAX_NAMES}
 use Rattle.nb_member.specs.declared.outcome.MemberFault.{MemberFault}
@@ -20,15 +9,13 @@ use Rattle.nb_member.specs.declared.outcome.Outcome.{Outcome}
 use Rattle.nb_member.specs.declared.outcome.Outcome.TheVariants.{Delivered, Unheard, Kept, Spoilt, Other}
 use Rattle.std.specs.FinMap as maps
 use denote.RawPtr.{Ptr, null_ptr}
-use Rattle.nb_member.specs.Member.{MemberValue, contents, with_timed, after_clock}
-use Rattle.nb_member.specs.Taking.{Takes}
 use Rattle.nb_calls.specs.declared.handle.NbtStation.{NbtStation}
 use Rattle.nb_calls.specs.declared.statuses.TheConstants as statuses
 use Rattle.nb_calls.specs.declared.taken.NbtTaken.{NbtTaken}
 use Rattle.nb_calls.specs.declared.taken.TheConstants as outcomes
 use Rattle.nb_calls.specs.Handles.{IsHere, IsNone}
 use Rattle.nb_calls.specs.Names.{IsRead}
-use Rattle.nb_calls.specs.Outputs.{Lent, OrMemory, Writes, refused_status, at_refused}
+use Rattle.nb_calls.specs.Outputs.{Answers, Lent, OrMemory, Writes, refused_status, at_refused}
 use Rattle.nb_calls.specs.Statuses.{Refusal, Memory, Fault, FaultAt, datagram_refusal}
 
 -- ---- the names of a new station
@@ -157,6 +144,10 @@ abbrev pub error_bytes : Option ErrorPacket → List ℕ
 error_bytes None = []
 error_bytes (Some error) = packet_bytes (Error error)
 
+-- Fronted bytes old new count: the bytes stand at the front of a buffer, the rest of which is as it was, and are so many
+abbrev pub Fronted : List ℕ → List ℕ → List ℕ → ℕ → Type 0
+Fronted bytes old new count = (new ≡ bytes ++ drop (length bytes) old) × (count ≡ length bytes)
+
 -- what is reported of a payload: numbers, and bytes
 pub record Reported : Type 0 where
   pub numbers : NbtTaken
@@ -231,6 +222,13 @@ pub data Ticks (m : MemberValue) (now : ℕ) (after : MemberValue) (dropped drop
 pub record OnStation (old new : NbtStation) (Done : MemberValue → MemberValue → Type 0) (Idle : Type 0) : Type 0 where
   pub here : IsHere old.at → IsHere new.at × Done old.value.member new.value.member
   pub none : IsNone old.at → IsNone new.at × Idle
+
+-- OnLent station station' Does old new status: a call does so to the member of a station and to what is lent, and answers
+-- where there is none
+abbrev pub OnLent : NbtStation → NbtStation → (MemberValue → MemberValue → Lent → Lent → ℕ → Type 0) → Lent → Lent → ℕ → Type 0
+OnLent station station' Does old new status =
+    OnStation station station' (λ m after. Does m after old new status)
+    (Answers (Err (Fault statuses.NO_STATION)) old new status)
 
 -- WritesOf bytes m after old new status: a call writes these bytes, or memory runs out, and the member stays
 abbrev pub WritesOf : List ℕ → MemberValue → MemberValue → Lent → Lent → ℕ → Type 0

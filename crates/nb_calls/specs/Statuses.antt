@@ -1,23 +1,16 @@
 -- The status of each fault, the place that goes with it, and its words (our choice).
-use Rattle.std.specs.Prelude.{ℕ, ◌+◌, ◌==◌, List, [], ◌∷◌, ◌++◌, map, Option, Some, None, Result, Ok, Err, codes, option_map}
-use Rattle.nb_names.specs.declared.fault.NameFault.{NameFault}
+use Rattle.nb_calls.specs.Common.{ℕ, ◌+◌, ◌==◌, List, [], ◌∷◌, ◌++◌, map, Option, Some, None, Result, Ok, Err, codes, option_map, NameFault, TextFault, LoadFault, DatagramFault, ServiceFault, LineFault, find}
 use Rattle.nb_names.specs.declared.fault.NameFault.TheVariants as names
-use Rattle.nb_names.specs.declared.fault.TextFault.{TextFault}
 use Rattle.nb_names.specs.declared.fault.TextFault.TheVariants as texts
-use Rattle.nb_entries.specs.declared.saved.LoadFault.{LoadFault}
 use Rattle.nb_entries.specs.declared.saved.LoadFault.TheVariants as loads
-use Rattle.nb_datagram.specs.declared.fault.DatagramFault.{DatagramFault}
 use Rattle.nb_datagram.specs.declared.fault.DatagramFault.TheVariants as datagrams
 use Rattle.nb_session.specs.declared.fault.SessionFault.{SessionFault}
 use Rattle.nb_session.specs.declared.fault.SessionFault.TheVariants as sessions
-use Rattle.nb_service.specs.declared.fault.ServiceFault.{ServiceFault}
 use Rattle.nb_service.specs.declared.fault.ServiceFault.TheVariants as services
-use Rattle.nb_capture.specs.declared.fault.LineFault.{LineFault}
 use Rattle.nb_capture.specs.declared.fault.LineFault.TheVariants as lines
 pub use Rattle.nb_calls.specs.declared.output.Refusal.{Refusal}
 pub use Rattle.nb_calls.specs.declared.output.Refusal.TheVariants.{Memory, Fault, FaultAt}
 use Rattle.nb_calls.specs.declared.statuses.TheConstants as statuses
-use Rattle.std.specs.List.{find}
 
 -- text_refusal role fault: why a text of this role is of no name
 abbrev pub text_refusal : ℕ → TextFault → Refusal

@@ -1,23 +1,14 @@
 -- What the calls on saved tables answer (our choice).
-use Rattle.std.specs.Prelude.{◌≡◌, ℕ, Bool, true, false, List, Result, Ok, Err, [], ◌∷◌, Option, Some, None}
-use Rattle.nb_entries.specs.declared.saved.LoadFault.{LoadFault}
-use Rattle.nb_table.specs.declared.fault.TableFault.{TableFault}
-use Rattle.nb_table.specs.Contents.{Contents}
+use Rattle.nb_calls.specs.Common.{◌≡◌, ℕ, Bool, true, false, List, Result, Ok, Err, [], ◌∷◌, Option, Some, None, LoadFault, TableFault, Contents, Limits, TableValue, KeepsLimits, IsReadAs, LoadFails, saved, Fits, IsRefused, listing, w32, from_be_bytes, Key}
 use Rattle.nb_table.specs.Join.{join}
-use Rattle.nb_table.specs.Limits.{Limits, TableValue, KeepsLimits}
-use Rattle.nb_table.specs.Saved.{IsReadAs, LoadFails, saved}
-use Rattle.nb_table.specs.Merging.{Fits, IsRefused}
-use Rattle.nb_member.specs.Listing.{listing}
 use Rattle.nb_member.specs.ListingFields.{listed_objects}
 use Rattle.nb_calls.specs.declared.statuses.TheConstants as statuses
 use Rattle.nb_calls.specs.Outputs.{OrMemory}
 use Rattle.nb_calls.specs.Stations.{table_refusal}
 use Rattle.nb_calls.specs.Statuses.{Refusal, load_refusal}
-use Rattle.std.specs.Int.{w32, from_be_bytes}
 use Rattle.std.specs.FinMap as maps
 use Rattle.std.specs.declared.cmp.Ordering.{Ordering}
 use Rattle.std.specs.declared.cmp.Ordering.TheVariants.{Less, Equal, Greater}
-use Rattle.nb_datagram.specs.declared.key.Key.{Key}
 use Rattle.nb_datagram.specs.Key.{key_cmp}
 use Rattle.nb_calls.specs.declared.tables.NbtDifference.{NbtDifference}
 

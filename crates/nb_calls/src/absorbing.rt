@@ -1,12 +1,11 @@
 //! Tables of other stations, taken in by a station.
-ghost use Rattle.std.specs.Prelude.{◌≡◌, ◌++◌, IfOk, OnOk, Ok};
-ghost use Rattle.nb_table.specs.Saved.{key_bytes};
+ghost use Rattle.nb_calls.specs.Common.{◌≡◌, ◌++◌, IfOk, OnOk, Ok};
 ghost use Rattle.nb_calls.specs.Absorbing.{Absorbed, Hears, Joined, all_heard, heard_bytes};
 
 use crate::output::{Refusal, answer_of, load_refusal, table_refusal};
 use crate::statuses::NO_ROLE;
 use crate::tables::loaded;
-use nb_datagram::{Datagram, Datagrams, Key};
+use nb_datagram::{Datagram, Datagrams};
 use nb_member::Member;
 use nb_member::laws::a_preview_is_what_is_handed_over;
 use nb_streams::{Bytes, NoMemory};
@@ -99,22 +98,15 @@ fn bytes_of(alloc: Global, datagrams: Datagrams) -> Result<Bytes, NoMemory>
 fn push_datagram(datagram: &Datagram, bytes: &mut Vec<u8>) -> Result<(), NoMemory>
     ensures { OnOk result (bytes.new.items ≡ bytes.old.items ++ heard_bytes datagram.now) }
 {
-    push_key(datagram.key(), bytes)?;
+    let key = datagram.key();
+    bytes.extend_from_slice(&key.ip)?;
+    bytes.extend_from_slice(&key.port.to_be_bytes())?;
+    bytes.extend_from_slice(&key.id.to_be_bytes())?;
     bytes.push(datagram.kind().message_type())?;
     bytes.extend_from_slice(datagram.source().to_domain().spelling())?;
     bytes.extend_from_slice(datagram.destination().to_domain().spelling())?;
     let length = datagram.bytes().len() as u16;
     bytes.extend_from_slice(&length.to_be_bytes())?;
     bytes.extend_from_slice(datagram.bytes())?;
-    Ok(())
-}
-
-/// Adds the bytes of a key.
-fn push_key(key: Key, bytes: &mut Vec<u8>) -> Result<(), NoMemory>
-    ensures { OnOk result (bytes.new.items ≡ bytes.old.items ++ key_bytes key) }
-{
-    bytes.extend_from_slice(&key.ip)?;
-    bytes.extend_from_slice(&key.port.to_be_bytes())?;
-    bytes.extend_from_slice(&key.id.to_be_bytes())?;
     Ok(())
 }

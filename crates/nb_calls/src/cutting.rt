@@ -1,10 +1,6 @@
 //! Packets of the datagram service, written: datagrams cut into pieces, and packets without data.
-ghost use Rattle.std.specs.Prelude.{◌≡◌, ◌++◌, ◌≤◌, length, IfOk, OnOk};
-ghost use Rattle.std.specs.List.{flat_map};
-ghost use Rattle.nb_datagram.specs.declared.limits.TheConstants.{MAX_LENGTH};
-ghost use Rattle.nb_datagram.specs.declared.packet.Packet.TheVariants.{Query};
-ghost use Rattle.nb_datagram.specs.Packet.{packet_bytes};
-ghost use Rattle.nb_calls.specs.Cutting.{are_long, cut_answer, cut_names, datagram_of, key_from, kind_with, packet_of, packets_of, counted, error_packet, query_answer, query_with};
+ghost use Rattle.nb_calls.specs.Common.{◌≡◌, ◌≤◌, length, IfOk, flat_map, MAX_LENGTH};
+ghost use Rattle.nb_calls.specs.Cutting.{are_long, cut_names, datagram_of, key_from, packet_of, packets_of, counted, error_packet, query_answer};
 ghost use Rattle.nb_calls.specs.Outputs.{OrMemory};
 
 use crate::output::{Refusal, answer_of, text_refusal};
@@ -13,7 +9,7 @@ use crate::statuses::{
 };
 use nb_datagram::limits::{DIRECT_HEADER_LENGTH, MAX_LENGTH};
 use nb_datagram::{
-    Datagram, ErrorPacket, Fragment, Key, Kind, Packet, Pieces, QueryKind, QueryPacket, cut, encode,
+    Datagram, ErrorPacket, Key, Kind, Packet, Pieces, QueryKind, QueryPacket, cut, encode,
 };
 use nb_names::{Name, TextFault};
 use nb_streams::{Bytes, NoMemory};
@@ -44,42 +40,21 @@ pub fn packets(
 ) -> Result<Bytes, Refusal>
     ensures { OrMemory (cut_names sent source destination contents.now) result }
 {
-    match kind_with(sent.packet_type) {
-        None => Err(Refusal::Fault(UNKNOWN_TYPE)),
-        Some(kind) => match source {
-            Err(fault) => Err(text_refusal(SOURCE_TEXT, fault)),
-            Ok(source) => match destination {
-                Err(fault) => Err(text_refusal(DESTINATION_TEXT, fault)),
-                Ok(destination) => cut_data(alloc, sent, kind, source, destination, contents),
-            },
-        },
-    }
-}
-
-/// The kind of datagram with this MSG_TYPE.
-fn kind_with(packet_type: u8) -> Option<Kind>
-    ensures { result ≡ kind_with packet_type }
-{
-    match packet_type {
-        0x10 => Some(Kind::Unique),
-        0x11 => Some(Kind::Group),
-        0x12 => Some(Kind::Broadcast),
-        _ => None,
-    }
-}
-
-/// The packets of the datagram with this data, whose lengths are judged before memory is taken.
-fn cut_data(
-    alloc: Global,
-    sent: Sent,
-    kind: Kind,
-    source: Name,
-    destination: Name,
-    contents: &[u8],
-) -> Result<Bytes, Refusal>
-    ensures { OrMemory (cut_answer (datagram_of sent kind source destination contents.now)
-        sent.most) result }
-{
+    let kind = match sent.packet_type {
+        0x10 => Kind::Unique,
+        0x11 => Kind::Group,
+        0x12 => Kind::Broadcast,
+        _ => return Err(Refusal::Fault(UNKNOWN_TYPE)),
+    };
+    let source = match source {
+        Ok(name) => name,
+        Err(fault) => return Err(text_refusal(SOURCE_TEXT, fault)),
+    };
+    let destination = match destination {
+        Ok(name) => name,
+        Err(fault) => return Err(text_refusal(DESTINATION_TEXT, fault)),
+    };
+    // Lengths are judged before memory is taken.
     if contents.len() > MAX_LENGTH {
         return Err(Refusal::Fault(LONG_DATA));
     }
@@ -127,14 +102,7 @@ fn cut_whole(
     let bytes = Bytes::copy(alloc, contents)?;
     let key = key_from(sent.identifier, sent.address, sent.port);
     let datagram = Datagram::new(key, kind, source, destination, bytes).unwrap();
-    cut_datagram(alloc, &datagram, sent.most)
-}
-
-/// The packets of a datagram, each with so many bytes of data at most.
-fn cut_datagram(alloc: Global, datagram: &Datagram, most: u16) -> Result<Bytes, NoMemory>
-    ensures { IfOk result (λ bytes. bytes ≡ packets_of datagram.now most) }
-{
-    match cut(alloc, datagram, most) {
+    match cut(alloc, &datagram, sent.most) {
         Ok(pieces) => joined(alloc, pieces),
         // The other faults were judged.
         Err(_) => Err(NoMemory),
@@ -148,27 +116,12 @@ fn joined(alloc: Global, pieces: Pieces<'_>) -> Result<Bytes, NoMemory>
 {
     let mut bytes = Vec::new(alloc);
     for piece in pieces.into_vec() {
-        push_piece(alloc, piece, &mut bytes)?;
+        let packet = encode(alloc, &Packet::Direct(piece))?;
+        let length = (packet.as_slice().len() % 65_536) as u16;
+        bytes.extend_from_slice(&length.to_be_bytes())?;
+        bytes.extend_from_slice(packet.as_slice())?;
     }
     Ok(Bytes::from_vec(bytes))
-}
-
-/// Adds the packet of a piece, after its length.
-fn push_piece(alloc: Global, piece: Fragment<'_>, bytes: &mut Vec<u8>) -> Result<(), NoMemory>
-    ensures { OnOk result (bytes.new.items ≡ bytes.old.items ++ counted (packet_of piece.entry)) }
-{
-    let packet = encode(alloc, &Packet::Direct(piece))?;
-    push_counted(packet.as_slice(), bytes)
-}
-
-/// Adds the bytes of a packet, after their number in two bytes.
-fn push_counted(packet: &[u8], bytes: &mut Vec<u8>) -> Result<(), NoMemory>
-    ensures { OnOk result (bytes.new.items ≡ bytes.old.items ++ counted packet.now) }
-{
-    let length = (packet.len() % 65_536) as u16;
-    bytes.extend_from_slice(&length.to_be_bytes())?;
-    bytes.extend_from_slice(packet)?;
-    Ok(())
 }
 
 /// FLAGS: the first fragment, and no more of them.
@@ -191,37 +144,22 @@ pub fn query_of(
 ) -> Result<Bytes, Refusal>
     ensures { OrMemory (query_answer packet_type key read) result }
 {
-    match query_with(packet_type) {
-        None => Err(Refusal::Fault(UNKNOWN_TYPE)),
-        Some(kind) => match read {
-            Ok(name) => answer_of(query_bytes(alloc, kind, key, name)),
-            Err(fault) => Err(text_refusal(NO_ROLE, fault)),
-        },
-    }
-}
-
-/// The kind of query with this MSG_TYPE.
-fn query_with(packet_type: u8) -> Option<QueryKind>
-    ensures { result ≡ query_with packet_type }
-{
-    match packet_type {
-        0x14 => Some(QueryKind::Request),
-        0x15 => Some(QueryKind::Positive),
-        0x16 => Some(QueryKind::Negative),
-        _ => None,
-    }
-}
-
-/// The bytes of a query about a name.
-fn query_bytes(alloc: Global, kind: QueryKind, key: Key, name: Name) -> Result<Bytes, NoMemory>
-    ensures { IfOk result (λ bytes. bytes ≡ packet_bytes
-        (Query (record { kind = kind; flags = 2; key = key; destination = name }))) }
-{
-    let query = QueryPacket {
-        kind,
-        flags: FLAGS,
-        key,
-        destination: name,
+    let kind = match packet_type {
+        0x14 => QueryKind::Request,
+        0x15 => QueryKind::Positive,
+        0x16 => QueryKind::Negative,
+        _ => return Err(Refusal::Fault(UNKNOWN_TYPE)),
     };
-    encode(alloc, &Packet::Query(query))
+    match read {
+        Ok(destination) => answer_of(encode(
+            alloc,
+            &Packet::Query(QueryPacket {
+                kind,
+                flags: FLAGS,
+                key,
+                destination,
+            }),
+        )),
+        Err(fault) => Err(text_refusal(NO_ROLE, fault)),
+    }
 }

@@ -1,13 +1,11 @@
 //! Packets of the datagram service, read, and what stands at the front of others.
-ghost use Rattle.std.specs.Prelude.{◌≡◌, ◌≤◌, length};
-ghost use Rattle.nb_names.specs.declared.limits.TheConstants.{MAX_SPELLING};
-ghost use Rattle.nb_datagram.specs.Packet.{name_bytes};
-ghost use Rattle.nb_calls.specs.Datagrams.{Reads, places_of, header_places, fragment_places, error_places, query_places, ReadsFront, front_places, numbers, place_if, spelled_length};
+ghost use Rattle.nb_calls.specs.Common.{◌≡◌, ◌≤◌, length, MAX_SPELLING, name_bytes};
+ghost use Rattle.nb_calls.specs.Datagrams.{Reads, places_of, header_places, fragment_places, ReadsFront, numbers, place_if, spelled_length};
 
 use crate::output::{Refusal, datagram_refusal};
 use crate::statuses::TRUNCATED;
 use nb_datagram::limits::{DIRECT_HEADER_LENGTH, HEADER_LENGTH};
-use nb_datagram::{ErrorPacket, Fragment, Front, Key, Packet, QueryPacket, decode, read_front};
+use nb_datagram::{Fragment, Front, Key, Packet, decode, read_front};
 use nb_names::{LentName, Name};
 
 /// MSG_TYPE of error packets.
@@ -61,8 +59,16 @@ fn places_of(packet: &Packet<'_>, used: usize) -> NbtDatagram
 {
     match packet {
         Packet::Direct(fragment) => fragment_places(fragment, used),
-        Packet::Error(error) => error_places(error, used),
-        Packet::Query(query) => query_places(query, used),
+        Packet::Error(error) => NbtDatagram {
+            contents: HEADER_LENGTH,
+            contents_length: 1,
+            ..header_places(ERROR_TYPE, error.flags, error.key, used)
+        },
+        Packet::Query(query) => NbtDatagram {
+            destination: HEADER_LENGTH,
+            destination_length: name_length(&query.destination),
+            ..header_places(query.kind.message_type(), query.flags, query.key, used)
+        },
     }
 }
 
@@ -94,26 +100,6 @@ fn fragment_places(fragment: &Fragment<'_>, used: usize) -> NbtDatagram
     places.destination_length = name_length(fragment.destination());
     places.contents = places.destination + places.destination_length;
     places.contents_length = fragment.bytes().len();
-    places
-}
-
-/// The numbers and places of an error packet.
-fn error_places(error: &ErrorPacket, used: usize) -> NbtDatagram
-    ensures { result ≡ error_places error.now used }
-{
-    let mut places = header_places(ERROR_TYPE, error.flags, error.key, used);
-    places.contents = HEADER_LENGTH;
-    places.contents_length = 1;
-    places
-}
-
-/// The numbers and places of a query packet.
-fn query_places(query: &QueryPacket, used: usize) -> NbtDatagram
-    ensures { result ≡ query_places query.now used }
-{
-    let mut places = header_places(query.kind.message_type(), query.flags, query.key, used);
-    places.destination = HEADER_LENGTH;
-    places.destination_length = name_length(&query.destination);
     places
 }
 
@@ -156,20 +142,13 @@ pub struct NbtDatagramFront {
 pub fn front_of(payload: &[u8]) -> Result<NbtDatagramFront, Refusal>
     ensures { ReadsFront payload.now result }
 {
-    match read_front(payload) {
-        Some(front) => Ok(front_places(&front)),
-        None => Err(Refusal::FaultAt(TRUNCATED, payload.len())),
-    }
-}
-
-/// The numbers of a front, and the places of its names.
-fn front_places(front: &Front<'_>) -> NbtDatagramFront
-    ensures { result ≡ front_places front.now }
-{
-    match &front.fragment {
-        Some(rest) => numbers(front, rest.offset, &rest.source, &rest.destination),
-        None => numbers(front, 0, &None, &None),
-    }
+    let Some(front) = read_front(payload) else {
+        return Err(Refusal::FaultAt(TRUNCATED, payload.len()));
+    };
+    Ok(match &front.fragment {
+        Some(rest) => numbers(&front, rest.offset, &rest.source, &rest.destination),
+        None => numbers(&front, 0, &None, &None),
+    })
 }
 
 /// What the header says, and where these names stand.

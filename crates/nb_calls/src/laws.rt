@@ -1,48 +1,24 @@
 //! Laws of the definitions that the contracts cite. Each is proved; a call does nothing.
-ghost use Rattle.std.specs.Prelude.{◌≡◌, ◌↔◌, ◌<◌, ◌≤◌, ◌+◌, ◌++◌, IsTrue, length, [], ◌∷◌, ℕ, List, All, Contains, Result, Err, None, Some};
-ghost use Rattle.std.specs.Int.{w16, to_be_bytes};
-ghost use Rattle.std.specs.List.{join_with_byte};
-ghost use Rattle.nb_names.specs.declared.fault.NameFault.{NameFault};
+ghost use Rattle.nb_calls.specs.Common.{◌≡◌, ◌↔◌, ◌<◌, ◌≤◌, ◌+◌, ◌++◌, IsTrue, length, [], ◌∷◌, ℕ, List, All, Contains, Result, Err, None, Some, w16, to_be_bytes, join_with_byte, NameFault, TextFault, NetbiosName, query_packet, status_packet, registration_packet, refresh_packet, release_packet, Answer, Authority, Additional, Key, Unique, Direct, Error, Query, ErrorPacket, FragmentFront, Front, FragmentParts, DatagramParts, HasFront, QueryPacket, IsPacket, name_bytes, IsKey, piece, Tick, BLANK, PACKET, TICK, Refusal, Memory, Fault, FaultAt, Asked, KEPT, SPOILT, DELIVERED, UNHEARD, OTHER, REFUSED, TAKE_ROOM, DONE, NO_ROOM, NO_MEMORY, NO_ROLE, SOURCE_TEXT, DESTINATION_TEXT, SOURCE, DESTINATION, SECOND, BAD_TEXT, LONG_TEXT, NAME_TRUNCATED, NAME_RESERVED_LABEL, NAME_POINTER, NAME_LONG, NAME_NOT_NETBIOS, NAME_TRAILING_BYTES, NAME_BAD_POINTER, TRUNCATED, UNKNOWN_TYPE, MORE, RESERVED_FLAGS, BAD_LENGTH, TRAILING_BYTES, NAME_RDATA, NO_ITEM, OTHER_RDATA, NO_PART, UNKNOWN_REQUEST, ZERO_PIECE, LONG_DATA, TABLE_BAD_MAGIC, TABLE_TRUNCATED, TABLE_NOT_CANONICAL, TABLE_LONG, TABLE_FULL_SOURCE, TABLE_FULL, MISPLACED_FIRST, LONG, FULL_SOURCE, FULL, NAME_PRESENT, TOO_MANY_NAMES, NO_STATION, OTHER_TYPE, BAD_LINE, UNKNOWN_STATUS};
 ghost use Rattle.nb_names.specs.declared.fault.NameFault.TheVariants as names;
-ghost use Rattle.nb_names.specs.declared.fault.TextFault.{TextFault};
 ghost use Rattle.nb_names.specs.declared.fault.TextFault.TheVariants as texts;
 ghost use Rattle.nb_streams.specs.Places.{StandsAt};
-ghost use Rattle.nb_names.specs.Name.{NetbiosName};
-ghost use Rattle.nb_service.specs.Requests.{query_packet, status_packet, registration_packet, refresh_packet, release_packet};
 ghost use Rattle.nb_service.specs.declared.fault.ServiceFault.TheVariants as services;
-ghost use Rattle.nb_service.specs.declared.packet.Section.TheVariants.{Answer, Authority, Additional};
 ghost use Rattle.nb_session.specs.declared.fault.SessionFault.TheVariants as sessions;
 ghost use Rattle.nb_datagram.specs.declared.fault.DatagramFault.TheVariants as datagrams;
 ghost use Rattle.nb_datagram.specs.declared.fault.DatagramFault.TheVariants.{SourceName, DestinationName};
-ghost use Rattle.nb_datagram.specs.declared.key.Key.{Key};
-ghost use Rattle.nb_datagram.specs.declared.key.Kind.TheVariants.{Unique};
-ghost use Rattle.nb_datagram.specs.declared.packet.Packet.TheVariants.{Direct, Error, Query};
-ghost use Rattle.nb_datagram.specs.declared.packet.ErrorPacket.{ErrorPacket};
-ghost use Rattle.nb_datagram.specs.declared.front.FragmentFront.{FragmentFront};
-ghost use Rattle.nb_datagram.specs.declared.front.Front.{Front};
-ghost use Rattle.nb_datagram.specs.Fragment.{FragmentParts, DatagramParts};
-ghost use Rattle.nb_datagram.specs.Fronts.{HasFront};
-ghost use Rattle.nb_datagram.specs.Packet.{QueryPacket, IsPacket, name_bytes};
-ghost use Rattle.nb_datagram.specs.Header.{IsKey};
-ghost use Rattle.nb_datagram.specs.Pieces.{piece};
 ghost use Rattle.nb_capture.specs.declared.fault.LineFault.TheVariants as lines;
-ghost use Rattle.nb_capture.specs.declared.line.Line.TheVariants.{Packet, Tick};
+ghost use Rattle.nb_capture.specs.declared.line.Line.TheVariants.{Packet};
 ghost use Rattle.nb_calls.specs.Absorbing.{heard_bytes};
 ghost use Rattle.nb_calls.specs.Captures.{line_parts};
-ghost use Rattle.nb_calls.specs.declared.showing.TheConstants.{BLANK, PACKET, TICK};
 ghost use Rattle.nb_calls.specs.Cutting.{are_long, packet_of};
 ghost use Rattle.nb_calls.specs.Datagrams.{fragment_places, error_places, query_places, front_places};
 ghost use Rattle.nb_calls.specs.Responses.{named_answer, request_answer, requested};
 ghost use Rattle.nb_calls.specs.Services.{section_number};
 ghost use Rattle.nb_calls.specs.Stations.{AreNames, table_refusal, texts_in};
 ghost use Rattle.nb_calls.specs.Statuses.{text_refusal, name_refusal, load_refusal, datagram_refusal, service_refusal, session_refusal, line_refusal};
-ghost use Rattle.nb_calls.specs.declared.output.Refusal.{Refusal};
-ghost use Rattle.nb_calls.specs.declared.output.Refusal.TheVariants.{Memory, Fault, FaultAt};
-ghost use Rattle.nb_calls.specs.declared.service.Asked.{Asked};
-ghost use Rattle.nb_calls.specs.declared.taken.TheConstants.{KEPT, SPOILT, DELIVERED, UNHEARD, OTHER, REFUSED, TAKE_ROOM};
 ghost use Rattle.nb_table.specs.declared.fault.TableFault.TheVariants as joins;
 ghost use Rattle.nb_entries.specs.declared.saved.LoadFault.TheVariants as loads;
-ghost use Rattle.nb_calls.specs.declared.statuses.TheConstants.{DONE, NO_ROOM, NO_MEMORY, NO_ROLE, SOURCE_TEXT, DESTINATION_TEXT, SOURCE, DESTINATION, SECOND, BAD_TEXT, LONG_TEXT, NAME_TRUNCATED, NAME_RESERVED_LABEL, NAME_POINTER, NAME_LONG, NAME_NOT_NETBIOS, NAME_TRAILING_BYTES, NAME_BAD_POINTER, TRUNCATED, UNKNOWN_TYPE, MORE, RESERVED_FLAGS, BAD_LENGTH, TRAILING_BYTES, NAME_RDATA, NO_ITEM, OTHER_RDATA, NO_PART, UNKNOWN_REQUEST, ZERO_PIECE, LONG_DATA, TABLE_BAD_MAGIC, TABLE_TRUNCATED, TABLE_NOT_CANONICAL, TABLE_LONG, TABLE_FULL_SOURCE, TABLE_FULL, MISPLACED_FIRST, LONG, FULL_SOURCE, FULL, NAME_PRESENT, TOO_MANY_NAMES, NO_STATION, OTHER_TYPE, BAD_LINE, UNKNOWN_STATUS};
 
 pub mod answers;
 
@@ -200,6 +176,7 @@ pub fn parts_stand_at_their_places()
 
 /// The names that are there whole at the front of a fragment's packet stand in the payload where
 /// they are said to stand.
+#[tactic(auto, using(crate::proofs::FrontLemmas::fronts))]
 pub fn names_stand_at_the_front()
     ensures source { (payload : List ℕ) (front : Front) (fragment : FragmentFront)
         (name : NetbiosName) → HasFront payload front → front.fragment ≡ Some fragment →
@@ -213,6 +190,7 @@ pub fn names_stand_at_the_front()
 
 /// A datagram is too long exactly where the first of its packets, than which none is longer, has
 /// more than 65,535 bytes.
+#[tactic(auto, using(crate::proofs::LengthLemmas::lengths))]
 pub fn the_first_packet_is_the_longest()
     ensures long { (d : DatagramParts) (most : ℕ) → IsKey d.key →
         IsTrue (are_long d.source d.destination (length d.bytes) most)

@@ -1,11 +1,6 @@
 //! Names: as texts, as spellings, and spelled out in place.
-ghost use Rattle.std.specs.Prelude.{◌≡◌, IfOk, ◌≤◌, ℕ, List, length};
+ghost use Rattle.nb_calls.specs.Common.{◌≡◌, IfOk, ◌≤◌, ℕ, List, length, written, IsBad, MAX_SPELLING, Followed, NameAt, IsSkipped};
 ghost use Rattle.std.specs.Str.{IsValidUpTo};
-ghost use Rattle.nb_names.specs.NameText.{written, IsBad};
-ghost use Rattle.nb_names.specs.declared.limits.TheConstants.{MAX_SPELLING};
-ghost use Rattle.nb_names.specs.declared.reading.Pointers.TheVariants.{Followed};
-ghost use Rattle.nb_names.specs.Labels.{NameAt};
-ghost use Rattle.nb_names.specs.Skipped.{IsSkipped};
 ghost use Rattle.nb_calls.specs.Names.{Tells, spelling_answer, IsRead, in_place, spelled_in_place};
 ghost use Rattle.nb_calls.specs.Outputs.{OrMemory};
 
@@ -89,8 +84,7 @@ pub(crate) fn spelled_in_place(domain: &DomainName) -> [u8; MAX_SPELLING]
     bytes
 }
 
-/// Fills in the spelling of the domain name at an offset of a packet that was judged so, and bytes
-/// of zero after it. Where it stands in the packet whole, it is copied from there.
+/// Fills in the spelling of the name at an offset, and zeros after it; copied where it stands whole.
 pub(crate) fn spell_domain(
     names: &NameReader<'_, '_>,
     at: usize,
@@ -107,9 +101,7 @@ pub(crate) fn spell_domain(
     }
 }
 
-/// Fills in the spelling of the domain name at an offset of a packet, along the stretches in which
-/// its labels stand. It is out of line, so that others don't pay for the room of a name, and given
-/// no more than it needs, so that nothing is kept for it.
+/// The same of one in stretches; out of line, so that others don't pay for the room of a name.
 #[inline(never)]
 fn spell_along(names: &NameReader<'_, '_>, at: usize, into: &mut [u8; MAX_SPELLING])
     requires { (labels : List (List ℕ)) × (next : ℕ) × NameAt names.now Followed at labels next }
@@ -123,8 +115,7 @@ fn spell_along(names: &NameReader<'_, '_>, at: usize, into: &mut [u8; MAX_SPELLI
 /// How many bytes the spelling of a NetBIOS name has whose scope has no label.
 const WITHOUT_SCOPE: usize = 1 + LETTERS + 1;
 
-/// Fills in a spelling, and bytes of zero after it. Of the length that nearly all have it is copied
-/// without a call of the C library, and by way of an array, which overlaps nothing.
+/// Fills in a spelling, and zeros after it: the usual length without a call of the C library.
 #[inline(always)]
 fn fill_spelling(spelling: &[u8], into: &mut [u8; MAX_SPELLING])
     requires { length spelling.now ≤ MAX_SPELLING }

@@ -1,9 +1,6 @@
 //! Requests and responses of the name service, written.
-ghost use Rattle.std.specs.Prelude.{◌≡◌, IfOk, MatchResult, Result, Ok, Err};
+ghost use Rattle.nb_calls.specs.Common.{◌≡◌, IfOk, MatchResult, Result, Ok, Err, entry_bytes, ResourceData};
 ghost use Rattle.nb_service.specs.Encoding.{packet_bytes};
-ghost use Rattle.nb_service.specs.Packet.{ServicePacket};
-ghost use Rattle.nb_service.specs.Views.{entry_bytes};
-ghost use Rattle.nb_service.specs.Record.{ResourceData};
 ghost use Rattle.nb_calls.specs.Outputs.{OrMemory};
 ghost use Rattle.nb_calls.specs.Responses.{entry_of, request_answer, requested, IsDomain, IsRdata, Responds, answer_of, response_answer, response_of};
 
@@ -58,34 +55,18 @@ pub fn request_of(
     }
 }
 
-/// The address that is asked for, with its flags.
-fn entry_of(asked: Asked) -> AddressEntry
-    ensures { result ≡ entry_of asked }
-{
-    AddressEntry {
-        flags: asked.nb_flags,
-        address: asked.address.to_be_bytes(),
-    }
-}
-
 /// The bytes of a request about a name.
 fn request_bytes(alloc: Global, asked: Asked, name: &Name) -> Result<Bytes, NoMemory>
     ensures { IfOk result (λ bytes.
         bytes ≡ packet_bytes (requested asked name.now (entry_bytes (entry_of asked)))) }
 {
-    let entry = entry_of(asked).to_bytes();
-    bytes_if_made(alloc, packet_of(alloc, asked, name, &entry))
-}
-
-/// The bytes of a packet, if it was made.
-pub(crate) fn bytes_if_made(
-    alloc: Global,
-    made: Result<Packet<'_>, NoMemory>,
-) -> Result<Bytes, NoMemory>
-    ensures { (expected : ServicePacket) → IfOk made.entry (λ packet. packet ≡ expected) →
-        IfOk result (λ bytes. bytes ≡ packet_bytes expected) }
-{
-    encode(alloc, &made?)
+    let entry = AddressEntry {
+        flags: asked.nb_flags,
+        address: asked.address.to_be_bytes(),
+    };
+    let entry = entry.to_bytes();
+    let packet = packet_of(alloc, asked, name, &entry)?;
+    encode(alloc, &packet)
 }
 
 /// A request about a name.
@@ -188,6 +169,6 @@ fn domain_of(bytes: &[u8]) -> Result<DomainName, Refusal>
 fn response_bytes(alloc: Global, answered: Answered, made: Record<'_>) -> Result<Bytes, NoMemory>
     ensures { IfOk result (λ bytes. bytes ≡ response_of answered made.entry) }
 {
-    let made = response(alloc, answered.identifier, answered.word, made);
-    bytes_if_made(alloc, made)
+    let packet = response(alloc, answered.identifier, answered.word, made)?;
+    encode(alloc, &packet)
 }

@@ -1,6 +1,5 @@
 //! Questions and records of the name service, many by one call, with the names in their RDATA.
-ghost use Rattle.std.specs.Prelude.{◌<◌, ◌^◌, length};
-ghost use Rattle.nb_service.specs.Header.{HasHeader, header_value};
+ghost use Rattle.nb_calls.specs.Common.{◌<◌, ◌^◌, length, HasHeader, header_value};
 ghost use Rattle.nb_calls.specs.ServiceParts.{FilledFront, ReadsEntries, ReadsEntry, ReadsServer, IsEntry, room_of, spelled_answer};
 
 use crate::names::spelled_in_place;
@@ -47,8 +46,7 @@ pub fn fill_entries(
     fill_long(payload, number, place, into)
 }
 
-/// The same of a payload that may have many names. It is out of line, so that others don't pay for
-/// its stack.
+/// The same of a payload with many names; out of line, so that others don't pay for its stack.
 #[inline(never)]
 fn fill_long(
     payload: &[u8],

@@ -1,7 +1,6 @@
 //! Parts of RDATA of the name service: those that have numbers, and a domain name.
-ghost use Rattle.std.specs.Prelude.{◌≡◌};
 ghost use Rattle.nb_calls.specs.Outputs.{Answers, lent};
-ghost use Rattle.nb_calls.specs.ServiceParts.{ReadsAddress, ReadsDomain, ReadsNode, ReadsUnit, address_numbers, node_numbers, part_answer, spelled_answer, unit_answer};
+ghost use Rattle.nb_calls.specs.ServiceParts.{ReadsAddress, ReadsDomain, ReadsNode, ReadsUnit, spelled_answer};
 
 use crate::output::{Refusal, name_refusal, put, refuse};
 use crate::statuses::{NAME_RDATA, NO_PART, NO_ROLE, OTHER_RDATA, TRUNCATED};
@@ -42,16 +41,9 @@ pub struct NbtServiceUnit {
 pub fn address_at(kind: u16, contents: &[u8], number: usize) -> Result<NbtServiceAddress, Refusal>
     ensures { ReadsAddress kind contents.now number result }
 {
-    match AddressEntries::of_rdata(kind, contents) {
-        Some(entries) => address_of(&entries, number),
-        None => Err(Refusal::Fault(OTHER_RDATA)),
-    }
-}
-
-/// The entry of a number.
-fn address_of(entries: &AddressEntries<'_>, number: usize) -> Result<NbtServiceAddress, Refusal>
-    ensures { result ≡ part_answer address_numbers entries.now number }
-{
+    let Some(entries) = AddressEntries::of_rdata(kind, contents) else {
+        return Err(Refusal::Fault(OTHER_RDATA));
+    };
     match entries.get(number) {
         Some(entry) => Ok(NbtServiceAddress {
             address: u32::from_be_bytes(entry.address),
@@ -65,16 +57,9 @@ fn address_of(entries: &AddressEntries<'_>, number: usize) -> Result<NbtServiceA
 pub fn node_at(kind: u16, contents: &[u8], number: usize) -> Result<NbtServiceNode, Refusal>
     ensures { ReadsNode kind contents.now number result }
 {
-    match NodeStatus::of_rdata(kind, contents) {
-        Some(status) => node_of(&status, number),
-        None => Err(Refusal::Fault(OTHER_RDATA)),
-    }
-}
-
-/// A node's name of a number.
-fn node_of(status: &NodeStatus<'_>, number: usize) -> Result<NbtServiceNode, Refusal>
-    ensures { result ≡ part_answer node_numbers status.now.names number }
-{
+    let Some(status) = NodeStatus::of_rdata(kind, contents) else {
+        return Err(Refusal::Fault(OTHER_RDATA));
+    };
     match status.get(number) {
         Some(node) => {
             let name = node.bytes;
@@ -91,31 +76,17 @@ fn node_of(status: &NodeStatus<'_>, number: usize) -> Result<NbtServiceNode, Ref
 pub fn unit_at(kind: u16, contents: &[u8]) -> Result<NbtServiceUnit, Refusal>
     ensures { ReadsUnit kind contents.now result }
 {
-    match NodeStatus::of_rdata(kind, contents) {
-        Some(status) => unit_of(&status, contents.len()),
-        None => Err(Refusal::Fault(OTHER_RDATA)),
-    }
-}
-
-/// The unit identifier of a status that ends after so many bytes.
-fn unit_of(status: &NodeStatus<'_>, size: usize) -> Result<NbtServiceUnit, Refusal>
-    ensures { result ≡ unit_answer status.now.statistics size }
-{
+    let Some(status) = NodeStatus::of_rdata(kind, contents) else {
+        return Err(Refusal::Fault(OTHER_RDATA));
+    };
     match status.unit_id() {
         Some(bytes) => Ok(NbtServiceUnit { bytes }),
-        None => Err(Refusal::FaultAt(TRUNCATED, size)),
+        None => Err(Refusal::FaultAt(TRUNCATED, contents.len())),
     }
 }
 
-/// The domain name that so many bytes of a payload are, from a place on.
-pub fn domain_at(payload: &[u8], place: usize, length: usize) -> Result<DomainName, Refusal>
-    ensures { ReadsDomain payload.now place length (spelled_answer result) }
-{
-    domain_by(&NameReader::of(payload, &mut []), place, length)
-}
-
-/// The same of a payload whose names are read so.
-pub(crate) fn domain_by(
+/// The domain name that so many bytes are, from a place on of a payload whose names are read so.
+pub fn domain_by(
     names: &NameReader<'_, '_>,
     place: usize,
     length: usize,

@@ -1,10 +1,5 @@
 //! Payloads of the name service, read.
-ghost use Rattle.std.specs.Prelude.{◌≡◌, ◌≤◌, ◌++◌, ℕ, List};
-ghost use Rattle.nb_names.specs.declared.reading.Pointers.TheVariants.{Followed};
-ghost use Rattle.nb_names.specs.DomainName.{spelling};
-ghost use Rattle.nb_names.specs.NameText.{are_letters};
-ghost use Rattle.nb_names.specs.Skipped.{IsSkipped};
-ghost use Rattle.nb_service.specs.Header.{HasHeader, header_value};
+ghost use Rattle.nb_calls.specs.Common.{◌≡◌, ◌≤◌, ◌++◌, ℕ, List, Followed, spelling, are_letters, IsSkipped, HasHeader, header_value};
 ghost use Rattle.nb_calls.specs.Outputs.{FilledIn, Fills};
 ghost use Rattle.nb_calls.specs.Services.{ReadsHeader, ReadsItem, ReadsPacket, header_numbers, netbios_number, numbers, section_number};
 
@@ -107,8 +102,7 @@ pub fn fill_packet(names: &NameReader<'_, '_>, header: &mut NbtServiceHeader, at
     finish(judge(names, header), at)
 }
 
-/// The same, or why there is no packet. The header is read where it is filled in, so that nothing
-/// of it is kept while the items are judged.
+/// The same, or why there is no packet. Nothing of the header is kept while the items are judged.
 #[inline(always)]
 fn judge(names: &NameReader<'_, '_>, into: &mut NbtServiceHeader) -> Result<(), Refusal>
     ensures { FilledIn (ReadsPacket names.now) into.old into.new result }
@@ -133,20 +127,15 @@ pub fn fill_item(
     ensures { FilledIn (ReadsItem payload.now number place) into.old into.new result }
 {
     match read_header(payload) {
-        Ok(header) => fill_item_of(
-            &NameReader::of(payload, &mut []),
-            &header,
-            number,
-            place,
-            into,
-        ),
+        Ok(header) => {
+            let names = NameReader::of(payload, &mut []);
+            fill_item_of(&names, &header, number, place, into)
+        }
         Err(fault) => Err(service_refusal(fault)),
     }
 }
 
-/// Fills in the item of a number that stands at an offset of a packet of this header. It is in line
-/// with both of its callers: what was seen of the item is then nowhere else than where it is filled
-/// in.
+/// The same of a packet of this header; in line, so that what was seen is nowhere else.
 #[inline(always)]
 pub(crate) fn fill_item_of(
     names: &NameReader<'_, '_>,

@@ -1,15 +1,13 @@
 //! Packets of the session service: read, taken apart and written.
-ghost use Rattle.std.specs.Prelude.{◌≡◌, ◌≤◌, length, IfOk};
-ghost use Rattle.nb_session.specs.declared.limits.TheConstants.{MAX_MESSAGE};
-ghost use Rattle.nb_calls.specs.Sessions.{Reads, session_of, ReadsFront, numbers, ReadsNames, ReadsRetarget, names_answer, names_of, retarget_answer, Stands, WritesPacket, frame};
+ghost use Rattle.nb_calls.specs.Common.{◌≡◌, ◌≤◌, length, IfOk, MAX_MESSAGE};
+ghost use Rattle.nb_calls.specs.Sessions.{Reads, ReadsFront, ReadsNames, ReadsRetarget, Stands, WritesPacket, frame};
 
 use crate::names::spelled_in_place;
 use crate::output::{Refusal, session_refusal};
 use crate::statuses::{BAD_LENGTH, MORE, OTHER_TYPE, UNKNOWN_TYPE};
-use nb_names::LentName;
 use nb_names::limits::MAX_SPELLING;
 use nb_session::limits::{HEADER_LENGTH, MAX_MESSAGE};
-use nb_session::{Header, Kind, LentPacket, Packet, Parsed, front_header, parse_lent};
+use nb_session::{Kind, Packet, Parsed, front_header, parse_lent};
 use nb_streams::{Bytes, NoMemory};
 use std::alloc::Global;
 
@@ -32,21 +30,14 @@ pub fn read(bytes: &[u8]) -> Result<NbtSession, Refusal>
     ensures { Reads bytes.now result }
 {
     match parse_lent(bytes) {
-        Parsed::Whole(packet, used) => Ok(session_of(&packet, used)),
+        Parsed::Whole(packet, used) => Ok(NbtSession {
+            packet_type: packet.kind().packet_type(),
+            body: HEADER_LENGTH,
+            body_length: used.saturating_sub(HEADER_LENGTH),
+            used,
+        }),
         Parsed::More(needed) => Err(Refusal::FaultAt(MORE, needed)),
         Parsed::Refused(fault) => Err(session_refusal(fault)),
-    }
-}
-
-/// The type and the body of a packet that has so many bytes.
-fn session_of(packet: &LentPacket<'_>, used: usize) -> NbtSession
-    ensures { result ≡ session_of packet.now used }
-{
-    NbtSession {
-        packet_type: packet.kind().packet_type(),
-        body: HEADER_LENGTH,
-        body_length: used.saturating_sub(HEADER_LENGTH),
-        used,
     }
 }
 
@@ -67,19 +58,12 @@ pub fn front_of(bytes: &[u8]) -> Result<NbtSessionFront, Refusal>
     ensures { ReadsFront bytes.now result }
 {
     match front_header(bytes) {
-        Some(header) => Ok(numbers(&header)),
+        Some(header) => Ok(NbtSessionFront {
+            packet_type: header.packet_type,
+            flags: header.flags,
+            body_length: header.body_length(),
+        }),
         None => Err(Refusal::FaultAt(MORE, HEADER_LENGTH - bytes.len())),
-    }
-}
-
-/// What a header says.
-fn numbers(header: &Header) -> NbtSessionFront
-    ensures { result ≡ numbers header.now }
-{
-    NbtSessionFront {
-        packet_type: header.packet_type,
-        flags: header.flags,
-        body_length: header.body_length(),
     }
 }
 
@@ -112,33 +96,19 @@ pub fn names_in(bytes: &[u8]) -> Result<NbtSessionNames, Refusal>
     ensures { ReadsNames bytes.now result }
 {
     match parse_lent(bytes) {
-        Parsed::Whole(packet, _) => names_answer(&packet),
+        Parsed::Whole(Packet::Request { called, calling }, _) => {
+            let called = called.to_domain();
+            let calling = calling.to_domain();
+            Ok(NbtSessionNames {
+                called_length: called.spelled_len() as u8,
+                called: spelled_in_place(&called),
+                calling_length: calling.spelled_len() as u8,
+                calling: spelled_in_place(&calling),
+            })
+        }
+        Parsed::Whole(_, _) => Err(Refusal::Fault(OTHER_TYPE)),
         Parsed::More(needed) => Err(Refusal::FaultAt(MORE, needed)),
         Parsed::Refused(fault) => Err(session_refusal(fault)),
-    }
-}
-
-/// The names of a packet, if it is a request.
-fn names_answer(packet: &LentPacket<'_>) -> Result<NbtSessionNames, Refusal>
-    ensures { result ≡ names_answer packet.now }
-{
-    match packet {
-        Packet::Request { called, calling } => Ok(names_of(called, calling)),
-        _ => Err(Refusal::Fault(OTHER_TYPE)),
-    }
-}
-
-/// Both names of a request, spelled out.
-fn names_of(called: &LentName<'_>, calling: &LentName<'_>) -> NbtSessionNames
-    ensures { result ≡ names_of called.now calling.now }
-{
-    let called = called.to_domain();
-    let calling = calling.to_domain();
-    NbtSessionNames {
-        called_length: called.spelled_len() as u8,
-        called: spelled_in_place(&called),
-        calling_length: calling.spelled_len() as u8,
-        calling: spelled_in_place(&calling),
     }
 }
 
@@ -147,22 +117,13 @@ pub fn retarget_in(bytes: &[u8]) -> Result<NbtSessionRetarget, Refusal>
     ensures { ReadsRetarget bytes.now result }
 {
     match parse_lent(bytes) {
-        Parsed::Whole(packet, _) => retarget_answer(&packet),
+        Parsed::Whole(Packet::Retarget { address, port }, _) => Ok(NbtSessionRetarget {
+            address: u32::from_be_bytes(address),
+            port,
+        }),
+        Parsed::Whole(_, _) => Err(Refusal::Fault(OTHER_TYPE)),
         Parsed::More(needed) => Err(Refusal::FaultAt(MORE, needed)),
         Parsed::Refused(fault) => Err(session_refusal(fault)),
-    }
-}
-
-/// Where a packet leads, if it is a retarget.
-fn retarget_answer(packet: &LentPacket<'_>) -> Result<NbtSessionRetarget, Refusal>
-    ensures { result ≡ retarget_answer packet.now }
-{
-    match packet {
-        Packet::Retarget { address, port } => Ok(NbtSessionRetarget {
-            address: u32::from_be_bytes(*address),
-            port: *port,
-        }),
-        _ => Err(Refusal::Fault(OTHER_TYPE)),
     }
 }
 

@@ -1,7 +1,5 @@
 //! The texts of packets, their phrases and JSON objects, and the lines of captures.
-ghost use Rattle.std.specs.Prelude.{IfOk, ◌≡◌, Ok};
-ghost use Rattle.nb_text.specs.SaysPacket.{IsSaid};
-ghost use Rattle.nb_text.specs.Shown.{Shown};
+ghost use Rattle.nb_calls.specs.Common.{IfOk, ◌≡◌, Ok, IsSaid, Shown};
 ghost use Rattle.nb_calls.specs.Outputs.{Answers, of_memory, lent};
 ghost use Rattle.nb_calls.specs.Captures.{WritesLine, line_answer, line_lent};
 
@@ -75,22 +73,17 @@ pub fn tell_line(
 {
     match read {
         Ok(None) => put_line(numbers(BLANK, 0, 0), &[], said, into, used),
-        Ok(
-            Some(
-                Line::Packet {
-                    port,
-                    moment,
-                    payload,
-                },
-            ),
-        ) => put_line(
-            numbers(PACKET, *port, *moment),
-            payload.as_slice(),
-            said,
-            into,
-            used,
-        ),
-        Ok(Some(Line::Tick { now })) => put_line(numbers(TICK, 0, *now), &[], said, into, used),
+        Ok(Some(line)) => match line {
+            Line::Packet {
+                port,
+                moment,
+                payload,
+            } => {
+                let numbers = numbers(PACKET, *port, *moment);
+                put_line(numbers, payload.as_slice(), said, into, used)
+            }
+            Line::Tick { now } => put_line(numbers(TICK, 0, *now), &[], said, into, used),
+        },
         Err(fault) => status_of(line_refusal(*fault)),
     }
 }

@@ -1,8 +1,5 @@
 //! Stations: made of names, shown the clock, saved, listed and given back.
-ghost use Rattle.std.specs.Prelude.{◌≡◌, ◌+◌, ◌<◌, ◌++◌, ◌∷◌, Contains, MatchOption, length};
-ghost use Rattle.std.specs.Int.{w32, to_be_bytes};
-ghost use Rattle.std.specs.List.{slice_split};
-ghost use Rattle.nb_member.specs.Member.{new_member};
+ghost use Rattle.nb_calls.specs.Common.{◌≡◌, ◌+◌, ◌<◌, ◌++◌, ◌∷◌, Contains, MatchOption, length, w32, to_be_bytes, slice_split, new_member};
 ghost use Rattle.nb_calls.specs.Stations.{IsCreated, Names, NamesText, is_space, texts_in};
 
 use crate::handle::{Kept, Parts, hide, pointer_of};

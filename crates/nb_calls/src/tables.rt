@@ -1,8 +1,6 @@
 //! Saved tables: joined, listed and compared.
-ghost use Rattle.std.specs.Prelude.{◌≡◌, IfOk, IfErr};
+ghost use Rattle.nb_calls.specs.Common.{◌≡◌, IfOk, IfErr, LoadFails, listing};
 ghost use Rattle.std.specs.FinMap as maps;
-ghost use Rattle.nb_table.specs.Saved.{LoadFails};
-ghost use Rattle.nb_member.specs.Listing.{listing};
 ghost use Rattle.nb_calls.specs.Tables.{Joins, Merges, OfOne, listed_as, Compares, IsLeastDifference, Narrows, NarrowsBy, difference_of, limits_with, lower_of, IsLoaded};
 
 use crate::output::{Refusal, answer_of, load_refusal, table_refusal};

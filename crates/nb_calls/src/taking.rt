@@ -1,9 +1,6 @@
 //! Payloads that a station takes, and what becomes of each.
-ghost use Rattle.std.specs.Prelude.{◌≤◌, length, ◌≡◌, ◌++◌, drop};
-ghost use Rattle.nb_calls.specs.Stations.{Took, Tells, answer_told, lent_for, told_of, told_refused, delivered_bytes, error_bytes};
-ghost use Rattle.nb_calls.specs.declared.taken.TheConstants.{TAKE_ROOM};
-ghost use Rattle.nb_datagram.specs.Packet.{packet_bytes};
-ghost use Rattle.nb_datagram.specs.declared.packet.Packet.TheVariants.{Error};
+ghost use Rattle.nb_calls.specs.Common.{◌≤◌, length, ◌≡◌, ◌++◌, TAKE_ROOM, packet_bytes, Error};
+ghost use Rattle.nb_calls.specs.Stations.{Fronted, Took, lent_for, told_of, told_refused, delivered_bytes, error_bytes};
 
 use crate::output::{datagram_refusal, refuse, status_of, table_refusal};
 use crate::statuses::{DONE, NO_ROOM};
@@ -29,27 +26,12 @@ pub fn take(
         *used = TAKE_ROOM;
         return NO_ROOM;
     }
-    let answer = member.take(moment, payload);
-    tell_answer(&answer, taken, into, used)
-}
-
-/// Tells what a member answered, in a buffer that has room.
-fn tell_answer(
-    answer: &Result<Outcome, MemberFault>,
-    taken: &mut NbtTaken,
-    into: &mut [u8],
-    used: &mut usize,
-) -> u32
-    requires { TAKE_ROOM ≤ length into.old }
-    ensures { Tells (answer_told answer.now) (lent_for taken.old into.old used.old)
-        (lent_for taken.new into.new used.new) result }
-{
-    match answer {
-        Ok(outcome) => *used = tell(outcome, taken, into),
+    match member.take(moment, payload) {
+        Ok(outcome) => *used = tell(&outcome, taken, into),
         Err(MemberFault::Packet(fault, error)) => {
-            *used = tell_refused(*fault, *error, taken, into);
+            *used = tell_refused(fault, error, taken, into);
         }
-        Err(MemberFault::Table(fault)) => return status_of(table_refusal(*fault)),
+        Err(MemberFault::Table(fault)) => return status_of(table_refusal(fault)),
     }
     DONE
 }
@@ -61,9 +43,7 @@ const ERROR_TYPE: u8 = 0x13;
 pub(crate) fn tell(outcome: &Outcome, taken: &mut NbtTaken, into: &mut [u8]) -> usize
     requires { TAKE_ROOM ≤ length into.old }
     ensures numbers { taken.new ≡ (told_of outcome.now).numbers }
-    ensures bytes { into.new ≡ (told_of outcome.now).bytes
-        ++ drop (length (told_of outcome.now).bytes) into.old }
-    ensures count { result ≡ length (told_of outcome.now).bytes }
+    ensures bytes { Fronted (told_of outcome.now).bytes into.old into.new result }
 {
     match outcome {
         Outcome::Kept(key) => {
@@ -96,8 +76,7 @@ pub(crate) fn tell_refused(
 ) -> usize
     requires { TAKE_ROOM ≤ length into.old }
     ensures numbers { taken.new ≡ (told_refused fault error).numbers }
-    ensures bytes { into.new ≡ error_bytes error ++ drop (length (error_bytes error)) into.old }
-    ensures count { result ≡ length (error_bytes error) }
+    ensures bytes { Fronted (error_bytes error) into.old into.new result }
 {
     *taken = of_other();
     taken.outcome = REFUSED;
@@ -110,9 +89,7 @@ pub(crate) fn tell_refused(
 fn tell_delivered(datagram: &Datagram, taken: &mut NbtTaken, into: &mut [u8]) -> usize
     requires { TAKE_ROOM ≤ length into.old }
     ensures numbers { taken.new ≡ (told_of (Outcome.Delivered datagram.now)).numbers }
-    ensures bytes { into.new ≡ delivered_bytes datagram.now
-        ++ drop (length (delivered_bytes datagram.now)) into.old }
-    ensures count { result ≡ length (delivered_bytes datagram.now) }
+    ensures bytes { Fronted (delivered_bytes datagram.now) into.old into.new result }
 {
     let source = datagram.source().to_domain();
     let destination = datagram.destination().to_domain();
@@ -128,9 +105,7 @@ fn tell_delivered(datagram: &Datagram, taken: &mut NbtTaken, into: &mut [u8]) ->
 /// Writes two rows of bytes one after the other, and answers how many they are.
 fn put_two(first: &[u8], second: &[u8], into: &mut [u8]) -> usize
     requires { length (first.now ++ second.now) ≤ length into.old }
-    ensures bytes { into.new ≡ (first.now ++ second.now)
-        ++ drop (length (first.now ++ second.now)) into.old }
-    ensures count { result ≡ length (first.now ++ second.now) }
+    ensures { Fronted (first.now ++ second.now) into.old into.new result }
 {
     let size = put_front(first, into);
     size + put_front(second, &mut into[size..])
@@ -139,8 +114,7 @@ fn put_two(first: &[u8], second: &[u8], into: &mut [u8]) -> usize
 /// Copies bytes to the front of a buffer that has room for them, and answers how many they are.
 fn put_front(bytes: &[u8], into: &mut [u8]) -> usize
     requires { length bytes.now ≤ length into.old }
-    ensures bytes { into.new ≡ bytes.now ++ drop (length bytes.now) into.old }
-    ensures count { result ≡ length bytes.now }
+    ensures { Fronted bytes.now into.old into.new result }
 {
     into[..bytes.len()].copy_from_slice(bytes);
     bytes.len()
@@ -149,8 +123,7 @@ fn put_front(bytes: &[u8], into: &mut [u8]) -> usize
 /// Writes the packet to send, if there is one, and answers how many bytes it has.
 fn put_error(error: Option<ErrorPacket>, into: &mut [u8]) -> usize
     requires { TAKE_ROOM ≤ length into.old }
-    ensures bytes { into.new ≡ error_bytes error ++ drop (length (error_bytes error)) into.old }
-    ensures count { result ≡ length (error_bytes error) }
+    ensures { Fronted (error_bytes error) into.old into.new result }
 {
     match error {
         Some(error) => put_front(&packet_of(&error), into),

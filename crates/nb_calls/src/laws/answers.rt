@@ -1,9 +1,6 @@
 //! Laws on what calls answer: one thing of each input, but for that memory ran out. Each is proved;
 //! a call does nothing.
-ghost use Rattle.std.specs.Prelude.{ℕ, List};
-ghost use Rattle.nb_datagram.specs.declared.key.Key.{Key};
-ghost use Rattle.nb_table.specs.Contents.{Contents};
-ghost use Rattle.nb_table.specs.Limits.{Limits};
+ghost use Rattle.nb_calls.specs.Common.{ℕ, List, Key, Contents, Limits, Sent, Answered, Asked};
 ghost use Rattle.nb_calls.specs.Captures.{SaysLine};
 ghost use Rattle.nb_calls.specs.Cutting.{Cuts, Queries};
 ghost use Rattle.nb_calls.specs.Datagrams.{Reads, ReadsFront};
@@ -15,9 +12,6 @@ ghost use Rattle.nb_calls.specs.Services.{ReadsHeader, ReadsItem, ReadsPacket};
 ghost use Rattle.nb_calls.specs.Sessions as sessions;
 ghost use Rattle.nb_calls.specs.Showing.{Objects, Phrases, Shows};
 ghost use Rattle.nb_calls.specs.Tables.{Compares, Merges, OfOne};
-ghost use Rattle.nb_calls.specs.declared.cutting.Sent.{Sent};
-ghost use Rattle.nb_calls.specs.declared.service.Answered.{Answered};
-ghost use Rattle.nb_calls.specs.declared.service.Asked.{Asked};
 
 use nb_capture::laws::a_line_has_one_value;
 use nb_datagram::laws::{one_datagram_fault, one_front, one_packet};

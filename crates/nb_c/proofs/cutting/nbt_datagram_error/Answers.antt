@@ -1,6 +1,5 @@
-use Rattle.nb_calls.proofs.Common.{◌≡◌, ℕ, List, IfOk, subst, Key}
+use Rattle.nb_calls.proofs.Common.{◌≡◌, ℕ, List, IfOk, subst, Key, error_packet}
 use Rattle.nb_calls.proofs.AnswerLemmas.{writes_made}
-use Rattle.nb_calls.specs.Cutting.{error_packet}
 use Rattle.nb_c.proofs.cutting.nbt_datagram_error.Goals as goal
 
 pub returns : goal.returns

@@ -1,8 +1,7 @@
-use Rattle.nb_calls.proofs.Common.{refl, subst, LoadFails}
+use Rattle.nb_calls.proofs.Common.{refl, subst, LoadFails, IsLoaded}
 use Rattle.nb_member.specs.declared.settings.Settings.{Settings}
 use Rattle.nb_member.specs.Events.{limits_of}
 use Rattle.nb_calls.specs.Absorbing.{not_read, read}
-use Rattle.nb_calls.specs.Tables.{IsLoaded}
 use Rattle.nb_calls.proofs.absorbing.absorb_saved.Goals as goal
 
 pub returns-in-Err : goal.returns-in-Err

@@ -1,5 +1,4 @@
-use Rattle.nb_calls.proofs.Common.{◌≡◌, flat_map}
-use Rattle.nb_calls.specs.Absorbing.{heard_bytes}
+use Rattle.nb_calls.proofs.Common.{◌≡◌, flat_map, heard_bytes}
 use Rattle.nb_calls.proofs.absorbing.bytes_of.Given as goal
 
 abbrev pub invariant-loop-datagram : goal.invariant-loop-datagram

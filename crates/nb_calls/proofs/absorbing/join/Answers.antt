@@ -1,5 +1,4 @@
-use Rattle.nb_calls.proofs.Common.{refl}
-use Rattle.nb_calls.specs.Absorbing.{refused}
+use Rattle.nb_calls.proofs.Common.{refl, refused}
 use Rattle.nb_calls.proofs.absorbing.join.Goals as goal
 
 pub join_in_room-requires : goal.join_in_room-requires

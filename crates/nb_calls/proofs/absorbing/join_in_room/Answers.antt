@@ -1,5 +1,4 @@
-use Rattle.nb_calls.proofs.Common.{ℕ, ◌<◌, ◌≤◌, List, length, refl, subst}
-use Rattle.nb_calls.specs.Absorbing.{no_room, refused, takes_not}
+use Rattle.nb_calls.proofs.Common.{ℕ, ◌<◌, ◌≤◌, List, length, refl, subst, no_room, refused, takes_not}
 use Rattle.nb_calls.proofs.AbsorbLemmas.{joins}
 use Rattle.nb_calls.proofs.absorbing.join_in_room.Goals as goal
 

@@ -1,5 +1,4 @@
-use Rattle.nb_calls.proofs.Common.{◌≡◌, flat_map}
-use Rattle.nb_calls.specs.Cutting.{packet_of, counted}
+use Rattle.nb_calls.proofs.Common.{◌≡◌, flat_map, packet_of, counted}
 use Rattle.nb_calls.proofs.cutting.joined.Given as goal
 
 abbrev pub invariant-loop-piece : goal.invariant-loop-piece

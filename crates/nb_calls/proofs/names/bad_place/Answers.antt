@@ -1,5 +1,4 @@
-use Rattle.nb_calls.proofs.Common.{ℕ, List, subst, take, TextFault, IsFaultOf, IsFormed}
-use Rattle.nb_names.specs.declared.fault.TextFault.TheVariants.{BadText, TooLong}
+use Rattle.nb_calls.proofs.Common.{ℕ, List, subst, take, TextFault, IsFaultOf, IsFormed, BadText, TooLong}
 use Rattle.nb_calls.proofs.TextLemmas.{bad_front, bad_end}
 use Rattle.nb_calls.proofs.names.bad_place.Goals as goal
 

@@ -1,5 +1,4 @@
-use Rattle.nb_calls.proofs.Common.{◌∙◌, ap, spelling}
-use Rattle.nb_calls.specs.Names.{in_place}
+use Rattle.nb_calls.proofs.Common.{◌∙◌, ap, spelling, in_place}
 use Rattle.nb_calls.proofs.names.spell_domain.Goals as goal
 
 pub returns-in-Some : goal.returns-in-Some

@@ -1,5 +1,4 @@
-use Rattle.nb_calls.proofs.Common.{◌≡◌, ℕ, length, subst, arith, Refused, NameAt}
-use Rattle.nb_calls.specs.Responses.{whole, no_name, bytes_trail}
+use Rattle.nb_calls.proofs.Common.{◌≡◌, ℕ, length, subst, arith, Refused, NameAt, whole, no_name, bytes_trail}
 use Rattle.nb_calls.proofs.service.domain_of.Goals as goal
 
 pub returns-then-next-bytes : goal.returns-then-next-bytes

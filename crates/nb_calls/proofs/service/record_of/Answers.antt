@@ -1,7 +1,6 @@
-use Rattle.nb_calls.proofs.Common.{◌≡◌, ◌≤◌, length, sym, ap, ◌∙◌, inl, inr, Ok, Err, cases_lt, of_bytes, of_domain, record_of}
+use Rattle.nb_calls.proofs.Common.{◌≡◌, ◌≤◌, length, sym, ap, ◌∙◌, inl, inr, Ok, Err, cases_lt, of_bytes, of_domain, record_of, NS, domain}
 use Rattle.nb_service.specs.declared.classes.TheConstants.{IN}
-use Rattle.nb_service.specs.declared.kinds.TheConstants.{NS}
-use Rattle.nb_calls.specs.Responses.{plain, too_long, domain}
+use Rattle.nb_calls.specs.Responses.{plain, too_long}
 use Rattle.nb_calls.proofs.service.record_of.Goals as goal
 
 pub returns-in-Ok : goal.returns-in-Ok

@@ -1,5 +1,4 @@
-use Rattle.nb_calls.proofs.Common.{ℕ, ◌<◌, length, Ok, Err, subst, arith}
-use Rattle.nb_calls.specs.ServiceParts.{FilledFront, ReadsEntries}
+use Rattle.nb_calls.proofs.Common.{ℕ, ◌<◌, length, Ok, Err, subst, arith, FilledFront, ReadsEntries}
 use Rattle.nb_calls.proofs.EntryLemmas.{filled_all, filled_none, filled_some, filling_begins, filling_more}
 use Rattle.nb_calls.proofs.service_entries.fill_each.Goals as goal
 

@@ -1,6 +1,5 @@
-use Rattle.nb_calls.proofs.Common.{◌∙◌, refl, header_value, seen_extent, seen_name, seen_fields}
+use Rattle.nb_calls.proofs.Common.{◌∙◌, refl, header_value, seen_extent, seen_name, seen_fields, uncounted, fails, stands}
 use Rattle.nb_calls.proofs.ServiceLemmas.{at_none, at_some, extent_fits, extent_there, same_numbers}
-use Rattle.nb_calls.specs.Services.{uncounted, fails, stands}
 use Rattle.nb_calls.proofs.service_reading.fill_item_of.Goals as goal
 
 pub fill_numbers-requires-clause-named : goal.fill_numbers-requires-clause-named

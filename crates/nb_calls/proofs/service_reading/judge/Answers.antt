@@ -1,6 +1,5 @@
-use Rattle.nb_calls.proofs.Common.{◌≡◌, ◌∙◌, ℕ, List, Ok, refl, ap, sym, subst, read_is, read_is_ok, PacketHeader, HasHeader, header_value}
+use Rattle.nb_calls.proofs.Common.{◌≡◌, ◌∙◌, ℕ, List, Ok, refl, ap, sym, subst, read_is, read_is_ok, PacketHeader, HasHeader, header_value, ReadsPacket, header_numbers}
 use Rattle.nb_calls.specs.declared.service_reading.NbtServiceHeader.{NbtServiceHeader}
-use Rattle.nb_calls.specs.Services.{ReadsPacket, header_numbers}
 use Rattle.nb_calls.proofs.ServiceLemmas.{outline_header}
 use Rattle.nb_calls.proofs.service_reading.judge.Goals as goal
 

@@ -1,7 +1,5 @@
-use Rattle.nb_calls.proofs.Common.{◌≡◌, ◌∙◌, ◌==◌, ℕ, true, false, List, [], ◌∷◌, ◌++◌, length, get_or, take, drop, inl, inr, refl, ap, sym, arith, append_assoc, and_parts, cases_Bool, list_all, spelling, is_letter, are_letters}
+use Rattle.nb_calls.proofs.Common.{◌≡◌, ◌∙◌, ◌==◌, ℕ, true, false, List, [], ◌∷◌, ◌++◌, length, get_or, take, drop, inl, inr, refl, ap, sym, arith, append_assoc, and_parts, cases_Bool, list_all, spelling, is_letter, are_letters, take-append_seam, netbios_number}
 use Rattle.std.proofs.lemmas.Bool.{eqb-true}
-use Rattle.std.proofs.Math.Seq.{take-append_seam}
-use Rattle.nb_calls.specs.Services.{netbios_number}
 use Rattle.nb_calls.proofs.service_reading.netbios_number.Goals.{else-bytes-eq-LETTERS-via-then-bytes-eq-LETTERS+else-are_letters, else-bytes-eq-LETTERS-via-else-bytes-eq-LETTERS}
 use Rattle.nb_calls.proofs.service_reading.netbios_number.Goals as goal
 

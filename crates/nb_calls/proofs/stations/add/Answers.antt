@@ -1,9 +1,7 @@
-use Rattle.nb_calls.proofs.Common.{◌≡◌, ◌+◌, List, length, Err, subst, arith, NetbiosName, IsFaultOf, TextFault}
-use Rattle.nb_names.specs.declared.fault.TextFault.TheVariants.{BadText, TooLong}
+use Rattle.nb_calls.proofs.Common.{◌≡◌, ◌+◌, List, length, Err, subst, arith, NetbiosName, IsFaultOf, TextFault, BadText, TooLong, AreNames, bad, present, too_many, more}
 use Rattle.nb_member.specs.declared.local_names.AddFault.{AddFault}
 use Rattle.nb_member.specs.declared.local_names.AddFault.TheVariants.{Present, TooMany, NoMemory}
 use Rattle.nb_member.specs.Hearing.{Adds}
-use Rattle.nb_calls.specs.Stations.{AreNames, bad, present, too_many, more}
 use Rattle.nb_calls.proofs.stations.add.Goals as goal
 
 pub returns-in-Ok-add : goal.returns-in-Ok-add

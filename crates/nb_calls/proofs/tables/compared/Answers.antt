@@ -1,5 +1,4 @@
-use Rattle.nb_calls.proofs.Common.{refl}
-use Rattle.nb_calls.specs.Tables.{first_fails, second_fails, both}
+use Rattle.nb_calls.proofs.Common.{refl, first_fails, second_fails, both}
 use Rattle.nb_calls.proofs.tables.compared.Goals as goal
 
 pub returns-in-Err : goal.returns-in-Err

@@ -1,6 +1,5 @@
-use Rattle.nb_calls.proofs.Common.{Option, Key}
+use Rattle.nb_calls.proofs.Common.{Option, Key, NarrowsBy}
 use Rattle.std.specs.FinMap as maps
-use Rattle.nb_calls.specs.Tables.{NarrowsBy}
 use Rattle.nb_calls.proofs.tables.least_of.Given as goal
 
 abbrev pub invariant-loop-key : goal.invariant-loop-key

@@ -1,5 +1,4 @@
-use Rattle.nb_calls.proofs.Common.{◌∙◌, sym, true≢false}
-use Rattle.nb_calls.specs.Tables.{same, differs}
+use Rattle.nb_calls.proofs.Common.{◌∙◌, sym, true≢false, same, differs}
 use Rattle.nb_calls.proofs.tables.narrowed.Goals as goal
 
 pub returns-then-same_at : goal.returns-then-same_at

@@ -1,10 +1,8 @@
-use Rattle.nb_calls.proofs.Common.{◌≡◌, ℕ, List, Result, Ok, Err, inl, inr, length, ap, arith, NetbiosName, NameAt, Refused, labels_of_name, Refusal}
-use Rattle.nb_names.specs.declared.fault.NameFault.{NameFault}
-use Rattle.nb_names.specs.Name.{IsName}
+use Rattle.nb_calls.proofs.Common.{◌≡◌, ℕ, List, Result, Ok, Err, inl, inr, length, ap, arith, NetbiosName, NameAt, Refused, labels_of_name, Refusal, NameFault, IsName, IsSpelling, spelling_answer, text_answer}
 use Rattle.nb_names.specs.NameFaults.{NetbiosFaultAt}
 use Rattle.nb_calls.proofs.AnswerLemmas.{one_else}
 use Rattle.nb_calls.proofs.NameLemmas.{TextLaws, one_read}
-use Rattle.nb_calls.specs.Names.{IsRead, IsSpelling, spelling_answer, text_answer}
+use Rattle.nb_calls.specs.Names.{IsRead}
 use Rattle.nb_calls.proofs.laws.answers.names_have_one_answer.Goals as goal
 
 -- a spelling has one name or one fault

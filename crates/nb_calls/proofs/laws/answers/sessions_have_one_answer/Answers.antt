@@ -1,7 +1,6 @@
-use Rattle.nb_session.specs.Parsing.{Parses}
+use Rattle.nb_calls.proofs.Common.{Parses, answer_by, names_answer, retarget_answer, session_answer}
 use Rattle.nb_calls.proofs.AnswerLemmas.{one_of}
 use Rattle.nb_calls.proofs.FrameLemmas.{one_writes}
-use Rattle.nb_calls.specs.Sessions.{answer_by, names_answer, retarget_answer, session_answer}
 use Rattle.nb_calls.proofs.laws.answers.sessions_have_one_answer.Goals as goal
 
 pub returns-clause-packet : goal.returns-clause-packet

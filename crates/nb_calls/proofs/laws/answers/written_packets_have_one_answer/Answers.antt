@@ -1,10 +1,8 @@
-use Rattle.nb_calls.proofs.Common.{ℕ, List}
+use Rattle.nb_calls.proofs.Common.{ℕ, List, cut_names, query_answer, request_answer}
 use Rattle.nb_calls.proofs.AnswerLemmas.{one_else}
 use Rattle.nb_calls.proofs.NameLemmas.{TextLaws, one_by_two, one_read}
 use Rattle.nb_calls.proofs.ResponseLemmas.{DomainLaws, one_response}
-use Rattle.nb_calls.specs.Cutting.{cut_names, query_answer}
 use Rattle.nb_calls.specs.Names.{IsRead}
-use Rattle.nb_calls.specs.Responses.{request_answer}
 use Rattle.nb_calls.proofs.laws.answers.written_packets_have_one_answer.Goals as goal
 
 pub returns-clause-pieces : goal.returns-clause-pieces

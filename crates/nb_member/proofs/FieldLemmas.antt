@@ -1,5 +1,5 @@
 -- Fields of reports and listings.
-use Rattle.nb_member.proofs.Common.{◌≡◌, ℕ, List, [], ◌∷◌, ◌++◌, map, codes, Option, Some, None, Result, Ok, Err, refl, sym, ap, ◌∙◌, AllByRecursion, Key, ErrorPacket, Error, DatagramParts, packet_bytes, Contents, outline_at, ranges_at, datagram_at, Field, Ends, LineEnds, place_fields, Text, Range, field_text, text_of, Outcome, Kept, Delivered, Unheard, Other, MemberFault, error_of, further_range, key_fields, known_fields, more_fields, outline_fields, places_fields, ranges_fields, error_text, parts_text, result_text, dropped_fields, error_fields, parts_fields, result_fields, outcome_fields, passed_fields}
+use Rattle.nb_member.proofs.Common.{◌≡◌, ℕ, List, [], ◌∷◌, ◌++◌, map, codes, Option, Some, None, Result, Ok, Err, refl, sym, ap, ◌∙◌, AllByRecursion, Key, ErrorPacket, Error, DatagramParts, packet_bytes, FragmentParts, Contents, outline_at, ranges_at, datagram_at, Field, Ends, LineEnds, place_fields, fold, NetbiosName, Text, Range, field_text, text_of, Outcome, Kept, Delivered, Unheard, Other, MemberFault, error_of, further_range, key_fields, known_fields, more_fields, outline_fields, places_fields, ranges_fields, error_text, parts_text, result_text, dropped_fields, error_fields, parts_fields, result_fields, outcome_fields, passed_fields}
 use Rattle.std.specs.Fmt.{decimal}
 use Rattle.std.proofs.lemmas.Grind.{flat_map-append}
 use Rattle.std.proofs.lemmas.List.{append_assoc, append-nil}
@@ -8,11 +8,14 @@ use Rattle.nb_names.specs.NameText.{written}
 use Rattle.nb_datagram.specs.FaultTexts.{key_text, kind_text}
 use Rattle.nb_entries.specs.declared.outline.Outline.{Outline}
 use Rattle.nb_entries.specs.declared.ranges.PlaceRange.{PlaceRange}
+use Rattle.nb_datagram.specs.declared.key.Kind.{Kind}
+use Rattle.nb_datagram.specs.Fragment.{datagram_by}
+use Rattle.nb_telling.specs.Telling.{Data}
 use Rattle.nb_telling.specs.Members.{AreMembers, AreParts, IsMember, nothing, member, list, both, no_part, range, words, parts}
 use Rattle.nb_member.specs.declared.outcome.Outcome.TheVariants.{Spoilt}
 use Rattle.nb_member.specs.FaultTexts.{member_fault_place, member_fault_text}
 use Rattle.nb_member.specs.Listing.{end_text, key_line, known_text, more_ranges_text, more_text, partial_text, range_text, ranges_text}
-use Rattle.nb_member.specs.Tags.{listed_tag, refused_tag, state_tag, outcome_tag, key_tag}
+use Rattle.nb_member.specs.Tags.{data_tag, destination_tag, kind_tag, listed_tag, refused_tag, source_tag, state_tag, outcome_tag, key_tag}
 use Rattle.nb_telling.specs.Texts as telling
 
 -- ---- the text of the fields of a report and of a listing is that of the report and of the listing
@@ -172,3 +175,15 @@ key_members t k =
     both (Text listed_tag (key_text k) ∷ []) _ (all_members _ (tt, tt))
     (both (known_fields (datagram_at t k) (outline_at t k) (ranges_at t k)) (LineEnds ∷ [])
     (known_members (datagram_at t k) (outline_at t k) (ranges_at t k)) (all_members (LineEnds ∷ []) (tt, tt)))
+
+-- ---- a datagram whose parts were told one by one
+
+-- what is told of the datagram of the fragment f with this data
+pub told_delivered : {A : Type 0} (after : A → Field → A) (old : A) (f : FragmentParts) (sent : List ℕ) {key : Key} {kind : Kind}
+    {source destination : NetbiosName} {bytes : List ℕ} {mid new : A} → key ≡ f.key → kind ≡ f.kind → source ≡ f.source
+    → destination ≡ f.destination → bytes ≡ sent
+    → mid ≡ fold after old (Text outcome_tag (codes "delivered") ∷ Text key_tag (key_text key) ∷ [])
+    → new ≡ fold after mid (Text kind_tag (kind_text kind) ∷ Text source_tag (written source) ∷ Text destination_tag (written destination)
+    ∷ Data data_tag bytes ∷ [])
+    → new ≡ fold after old (outcome_fields (Delivered (datagram_by f sent)))
+told_delivered after old f sent a b c d e first more = cc (a, b, c, d, e, first, more)

@@ -7,10 +7,7 @@ ghost use Rattle.nb_member.specs.FaultTexts.{add_fault_text};
 use crate::limits::MAX_NAMES;
 use nb_datagram::{Datagram, Kind};
 use nb_names::{LentName, Name, Scope};
-use std::alloc::Global;
-use std::error::Error;
-use std::fmt;
-use std::marker::Model;
+use std::{alloc::Global, error::Error, fmt, marker::Model};
 
 /// Why a name isn't added to those that are held. Where several apply, the first is answered.
 #[derive(Clone, Copy, Debug, PartialEq, Eq)]
@@ -82,10 +79,7 @@ impl LocalNames {
         if MAX_NAMES <= self.names.len() {
             return Err(AddFault::TooMany);
         }
-        match self.names.push(name) {
-            Ok(()) => Ok(()),
-            Err(_) => Err(AddFault::NoMemory),
-        }
+        self.names.push(name).map_err(|_| AddFault::NoMemory)
     }
 
     /// Whether this name is held. No memory is taken.

@@ -1,7 +1,7 @@
 //! What a member is set up with, and the error packets that it answers with.
 ghost use Rattle.std.specs.Prelude.{◌≡◌};
 ghost use Rattle.nb_datagram.specs.declared.error_codes.TheConstants.{DESTINATION_NAME_NOT_PRESENT};
-ghost use Rattle.nb_member.specs.Hearing.{error_about, bad_name, refusal};
+ghost use Rattle.nb_member.specs.Hearing.{error_about, refusal};
 
 use nb_datagram::limits::HEADER_LENGTH;
 use nb_datagram::{DatagramFault, ErrorPacket, Key, Kind, LentFragment, error_codes};
@@ -61,26 +61,12 @@ impl Settings {
     pub(crate) fn error_for(&self, payload: &[u8], fault: DatagramFault) -> Option<ErrorPacket>
         ensures { result ≡ refusal self.now payload.now fault }
     {
-        match fault {
-            DatagramFault::Truncated(_) => None,
-            DatagramFault::UnknownType => None,
-            DatagramFault::SourceName(_) => {
-                self.bad_name(payload, error_codes::INVALID_SOURCE_NAME_FORMAT)
-            }
-            DatagramFault::DestinationName(_) => {
-                self.bad_name(payload, error_codes::INVALID_DESTINATION_NAME_FORMAT)
-            }
-        }
-    }
-
-    /// The error packet of this code about a payload, if it begins as a direct unique datagram.
-    fn bad_name(&self, payload: &[u8], code: u8) -> Option<ErrorPacket>
-        ensures { result ≡ bad_name self.now payload.now code }
-    {
-        if payload.len() < HEADER_LENGTH {
-            return None;
-        }
-        if payload[0] != Kind::Unique.message_type() {
+        let code = match fault {
+            DatagramFault::Truncated(_) | DatagramFault::UnknownType => return None,
+            DatagramFault::SourceName(_) => error_codes::INVALID_SOURCE_NAME_FORMAT,
+            DatagramFault::DestinationName(_) => error_codes::INVALID_DESTINATION_NAME_FORMAT,
+        };
+        if payload.len() < HEADER_LENGTH || payload[0] != Kind::Unique.message_type() {
             return None;
         }
         let id = u16::from_be_bytes([payload[2], payload[3]]);

@@ -10,7 +10,8 @@ use Rattle.nb_entries.specs.declared.outline.Outline.{Outline}
 use Rattle.nb_entries.specs.declared.ranges.PlaceRange.{PlaceRange}
 use Rattle.nb_datagram.specs.declared.key.Kind.{Kind}
 use Rattle.nb_datagram.specs.Fragment.{datagram_by}
-use Rattle.nb_telling.specs.Telling.{Data}
+use Rattle.nb_telling.specs.Telling.{Begins, Data}
+use Rattle.nb_telling.proofs.FoldLemmas.{told_both}
 use Rattle.nb_telling.specs.Members.{AreMembers, AreParts, IsMember, nothing, member, list, both, no_part, range, words, parts}
 use Rattle.nb_member.specs.declared.outcome.Outcome.TheVariants.{Spoilt}
 use Rattle.nb_member.specs.FaultTexts.{member_fault_place, member_fault_text}
@@ -176,7 +177,7 @@ key_members t k =
     (both (known_fields (datagram_at t k) (outline_at t k) (ranges_at t k)) (LineEnds ∷ [])
     (known_members (datagram_at t k) (outline_at t k) (ranges_at t k)) (all_members (LineEnds ∷ []) (tt, tt)))
 
--- ---- a datagram whose parts were told one by one
+-- ---- what was told part by part
 
 -- what is told of the datagram of the fragment f with this data
 pub told_delivered : {A : Type 0} (after : A → Field → A) (old : A) (f : FragmentParts) (sent : List ℕ) {key : Key} {kind : Kind}
@@ -187,3 +188,13 @@ pub told_delivered : {A : Type 0} (after : A → Field → A) (old : A) (f : Fra
     ∷ Data data_tag bytes ∷ [])
     → new ≡ fold after old (outcome_fields (Delivered (datagram_by f sent)))
 told_delivered after old f sent a b c d e first more = cc (a, b, c, d, e, first, more)
+
+-- what is told of a key that is whole or spoilt in no way, where o is known of it
+pub told_partial : {A : Type 0} (after : A → Field → A) (old : A) (o : Outline) {whole : Option DatagramParts} {known : Option Outline}
+    {rs places : List PlaceRange} {s1 s2 s3 s4 s5 new : A} → whole ≡ None → known ≡ Some o → rs ≡ places
+    → s1 ≡ after old (Text state_tag (codes "partial")) → s2 ≡ fold after s1 (outline_fields o) → s3 ≡ after s2 (Begins (codes "places"))
+    → s4 ≡ fold after s3 (ranges_fields rs) → s5 ≡ after s4 Ends → new ≡ fold after s5 (more_fields o.awaited)
+    → new ≡ fold after old (known_fields whole known places)
+told_partial after old o {rs = rs} {s2 = s2} {s3 = s3} none some same a b c d e f =
+    cc (none, some, same, a, b, c, d, e, f, told_both after (after old (Text state_tag (codes "partial"))) (outline_fields o) (places_fields rs ++ more_fields o.awaited),
+    told_both after s2 (places_fields rs) (more_fields o.awaited), told_both after s3 (ranges_fields rs) (Ends ∷ []))

@@ -8,7 +8,7 @@ ghost use Rattle.nb_telling.specs.Telling.{Grows};
 ghost use Rattle.nb_telling.specs.ObjectLines.{IsObject};
 ghost use Rattle.nb_table.specs.Contents.{outline_at, ranges_at, datagram_at};
 ghost use Rattle.nb_member.specs.Listing.{key_line, listing};
-ghost use Rattle.nb_member.specs.ListingFields.{key_fields, listed_objects, further_range, known_fields, more_fields, outline_fields, places_fields, ranges_fields};
+ghost use Rattle.nb_member.specs.ListingFields.{key_fields, listed_objects, further_range, known_fields, more_fields, outline_fields, ranges_fields};
 
 use crate::laws::{fields_are_members, texts_of_listings};
 use crate::report::tell_parts;
@@ -120,7 +120,9 @@ fn tell_known<S: Sink>(table: &Table, key: &Key, sink: &mut S) -> Result<(), NoM
         Some(outline) => {
             sink.text(STATE, "partial")?;
             tell_outline(&outline, sink)?;
-            tell_places(table.ranges(key), sink)?;
+            sink.begins("places")?;
+            tell_ranges(table.ranges(key), sink)?;
+            sink.ends()?;
             tell_more(outline.awaited, sink)
         }
         None => sink.text(STATE, "spoilt"),
@@ -139,17 +141,6 @@ fn tell_outline<S: Sink>(outline: &Outline, sink: &mut S) -> Result<(), NoMemory
     sink.number(HELD, u64::from(outline.held))?;
     sink.known(END, outline.end.map(u64::from))?;
     sink.number(RUNS, u64::from(outline.runs))
-}
-
-/// Tells the list of the ranges of known places.
-fn tell_places<S: Sink>(ranges: Ranges<'_>, sink: &mut S) -> Result<(), NoMemory>
-    ensures told { OnOk result
-        (S.seen sink.new ≡ fold S.after (S.seen sink.old) (places_fields ranges.entry)) }
-    ensures front { Grows S.is_front (S.seen sink.old) (S.seen sink.new) }
-{
-    sink.begins("places")?;
-    tell_ranges(ranges, sink)?;
-    sink.ends()
 }
 
 /// Tells ranges of places.

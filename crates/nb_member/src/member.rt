@@ -17,6 +17,7 @@ use crate::local_names::LocalNames;
 use crate::outcome::{Dropped, LentOutcome, MemberFault, Outcome};
 use crate::settings::Settings;
 use crate::timed_table::TimedTable;
+use nb_datagram::error_codes::DESTINATION_NAME_NOT_PRESENT;
 use nb_datagram::{Datagrams, LentFragment, LentPacket, UserData, decode_lent};
 use nb_table::{Change, Handing, Table, TableFault};
 use std::{alloc::Global, marker::Model};
@@ -227,7 +228,9 @@ fn outcome_of<'a>(
             if names.hears_as(fragment.kind(), fragment.destination()) {
                 return LentOutcome::Delivered(fragment, bytes);
             }
-            LentOutcome::Unheard(fragment.key(), settings.unheard(&fragment))
+            let code = DESTINATION_NAME_NOT_PRESENT;
+            let key = fragment.key();
+            LentOutcome::Unheard(key, settings.error_about(fragment.kind(), key.id, code))
         }
         Change::Same | Change::Grown => LentOutcome::Kept(fragment.key()),
     }

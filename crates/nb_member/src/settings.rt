@@ -1,10 +1,9 @@
 //! What a member is set up with, and the error packets that it answers with.
 ghost use Rattle.std.specs.Prelude.{◌≡◌};
-ghost use Rattle.nb_datagram.specs.declared.error_codes.TheConstants.{DESTINATION_NAME_NOT_PRESENT};
 ghost use Rattle.nb_member.specs.Hearing.{error_about, refusal};
 
 use nb_datagram::limits::HEADER_LENGTH;
-use nb_datagram::{DatagramFault, ErrorPacket, Key, Kind, LentFragment, error_codes};
+use nb_datagram::{DatagramFault, ErrorPacket, Key, Kind, error_codes};
 
 /// What a member is set up with.
 #[derive(Clone, Copy, Debug, PartialEq, Eq)]
@@ -27,7 +26,7 @@ impl Settings {
     ///
     /// RFC 1002 sections 4.4.3 and 5.3; its address and port, the member's, and its flags, 02, are
     /// our choice.
-    fn error_about(&self, kind: Kind, id: u16, code: u8) -> Option<ErrorPacket>
+    pub(crate) fn error_about(&self, kind: Kind, id: u16, code: u8) -> Option<ErrorPacket>
         ensures { result ≡ error_about self.now kind id code }
     {
         match kind {
@@ -42,18 +41,6 @@ impl Settings {
             }),
             Kind::Group | Kind::Broadcast => None,
         }
-    }
-
-    /// The error packet about a fragment's datagram, which became whole and isn't heard.
-    pub(crate) fn unheard(&self, fragment: &LentFragment<'_>) -> Option<ErrorPacket>
-        ensures { result ≡ error_about self.now fragment.now.kind fragment.now.key.id
-            DESTINATION_NAME_NOT_PRESENT }
-    {
-        self.error_about(
-            fragment.kind(),
-            fragment.key().id,
-            error_codes::DESTINATION_NAME_NOT_PRESENT,
-        )
     }
 
     /// The error packet about a payload that is refused with this fault, which is sent where a name

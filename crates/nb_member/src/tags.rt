@@ -1,4 +1,4 @@
-//! The keys of the fields of a report and of a listing, as specs/Keys has them (our choice).
+//! The keys of the fields of a report and of a listing, as specs/Tags has them (our choice).
 
 use nb_telling::FieldTag;
 
@@ -12,15 +12,20 @@ macro_rules! field_tag {
     };
 }
 
+// Of a report; a line's number stands before it.
 pub const OUTCOME: FieldTag = field_tag!("outcome", "");
 pub const COUNT: FieldTag = field_tag!("count", " ");
 pub const REFUSED: FieldTag = field_tag!("refused", "refused ");
 pub const ERROR: FieldTag = field_tag!("error", " error ");
+
+// Of both.
 pub const KEY: FieldTag = field_tag!("key", " ");
 pub const KIND: FieldTag = field_tag!("kind", " ");
 pub const SOURCE: FieldTag = field_tag!("source", " ");
 pub const DESTINATION: FieldTag = field_tag!("destination", " ");
 pub const DATA: FieldTag = field_tag!("data", " ");
+
+// Of a listing, whose lines begin with the key.
 pub const LISTED: FieldTag = field_tag!("key", "");
 pub const STATE: FieldTag = field_tag!("state", " ");
 pub const HELD: FieldTag = field_tag!("held", " ");

@@ -196,5 +196,17 @@ pub told_partial : {A : Type 0} (after : A → Field → A) (old : A) (o : Outli
     → s4 ≡ fold after s3 (ranges_fields rs) → s5 ≡ after s4 Ends → new ≡ fold after s5 (more_fields o.awaited)
     → new ≡ fold after old (known_fields whole known places)
 told_partial after old o {rs = rs} {s2 = s2} {s3 = s3} none some same a b c d e f =
-    cc (none, some, same, a, b, c, d, e, f, told_both after (after old (Text state_tag (codes "partial"))) (outline_fields o) (places_fields rs ++ more_fields o.awaited),
-    told_both after s2 (places_fields rs) (more_fields o.awaited), told_both after s3 (ranges_fields rs) (Ends ∷ []))
+    cc (
+      none,
+      some,
+      same,
+      a,
+      b,
+      c,
+      d,
+      e,
+      f,
+      told_both after (after old (Text state_tag (codes "partial"))) (outline_fields o) (places_fields rs ++ more_fields o.awaited),
+      told_both after s2 (places_fields rs) (more_fields o.awaited),
+      told_both after s3 (ranges_fields rs) (Ends ∷ []),
+    )

@@ -7,7 +7,10 @@ ghost use Rattle.nb_member.specs.FaultTexts.{add_fault_text};
 use crate::limits::MAX_NAMES;
 use nb_datagram::{Datagram, Kind};
 use nb_names::{LentName, Name, Scope};
-use std::{alloc::Global, error::Error, fmt, marker::Model};
+use std::alloc::Global;
+use std::error::Error;
+use std::fmt;
+use std::marker::Model;
 
 /// Why a name isn't added to those that are held. Where several apply, the first is answered.
 #[derive(Clone, Copy, Debug, PartialEq, Eq)]

@@ -20,7 +20,8 @@ use crate::timed_table::TimedTable;
 use nb_datagram::error_codes::DESTINATION_NAME_NOT_PRESENT;
 use nb_datagram::{Datagrams, LentFragment, LentPacket, UserData, decode_lent};
 use nb_table::{Change, Handing, Table, TableFault};
-use std::{alloc::Global, marker::Model};
+use std::alloc::Global;
+use std::marker::Model;
 
 /// A member, which takes payloads as a station of the network takes those of its port 138. What it
 /// knows of datagrams stands in a table, which payloads fill and the clock empties; a datagram that

@@ -7,7 +7,8 @@ ghost use Rattle.nb_member.specs.declared.outcome.MemberFault.TheVariants.{Table
 use nb_datagram::{Datagram, DatagramFault, ErrorPacket, Key, LentFragment, UserData};
 use nb_streams::Bytes;
 use nb_table::TableFault;
-use std::{error::Error, fmt};
+use std::error::Error;
+use std::fmt;
 
 /// What became of a payload that a member took.
 #[derive(Drop)]

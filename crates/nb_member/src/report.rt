@@ -79,11 +79,7 @@ fn tell_of<S: Sink>(word: &str, key: Key, sink: &mut S) -> Result<(), NoMemory>
 }
 
 /// Tells why a payload was refused.
-fn tell_refused<S: Sink>(
-    alloc: Global,
-    fault: MemberFault,
-    sink: &mut S,
-) -> Result<(), NoMemory>
+fn tell_refused<S: Sink>(alloc: Global, fault: MemberFault, sink: &mut S) -> Result<(), NoMemory>
     ensures told { OnOk result
         (S.seen sink.new ≡ fold S.after (S.seen sink.old) (refused_fields fault)) }
     ensures front { Grows S.is_front (S.seen sink.old) (S.seen sink.new) }

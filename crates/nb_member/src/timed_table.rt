@@ -16,7 +16,8 @@ use crate::limits::FRAGMENT_TIMEOUT;
 use nb_datagram::{Datagrams, Key, LentFragment, UserData};
 use nb_streams::NoMemory;
 use nb_table::{Change, Handing, State, Table, TableFault};
-use std::{alloc::Global, marker::Model};
+use std::alloc::Global;
+use std::marker::Model;
 
 /// A table, and when each of its keys came. No key of the one is missing in the other.
 #[derive(Drop)]

@@ -1,4 +1,4 @@
-use Rattle.nb_member.proofs.Common.{List, sym, ap, ◌++◌, ◌∙◌, subst, refl, Err, false, Bool, Result, Event, ErrorPacket, DatagramParts, MemberValue, RunStop, delivery_in, error_in, HandedOut, HasTaken, TakesEvent}
+use Rattle.nb_member.proofs.Common.{List, sym, ap, ◌++◌, ◌∙◌, subst, refl, Err, false, Event, ErrorPacket, DatagramParts, RunStop, delivery_in, error_in, HandedOut, HasTaken, TakesEvent}
 use Rattle.nb_member.specs.declared.outcome.Event.TheVariants.{Packet}
 use Rattle.nb_member.proofs.EventTakingLemmas.OneEvent.{StepsKnown, clock_step, payload_step, no_room_step}
 use Rattle.nb_member.proofs.event_taking.Log.take.Goals as goal

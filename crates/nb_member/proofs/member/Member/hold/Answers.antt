@@ -11,13 +11,16 @@ returns-in_ok-insert-in-Ok-Direct-default-clause-taken c =
     let e = c.in_ok-insert-in-Ok-Direct-default in
     let told = e.ensures.change in
     let outcome = outcome_of m.settings m.names d.fragment.key told.0 in
-    rw (← c.self.view_is) (outcome, fragment d.fragment d.field-0-1 (Ok outcome) found (record {
-      takes = e.ensures.taken;
-      joined = ap (with_timed m) e.ensures.joined;
-      change = told.0;
-      changed = told.1;
-      answered = refl;
-    }))
+    rw (← c.self.view_is) (
+      outcome,
+      fragment d.fragment d.field-0-1 (Ok outcome) found (record {
+        takes = e.ensures.taken;
+        joined = ap (with_timed m) e.ensures.joined;
+        change = told.0;
+        changed = told.1;
+        answered = refl;
+      }),
+    )
 
 pub returns-in_err-insert-in-Ok-Direct-default-clause-refused : goal.returns-in_err-insert-in-Ok-Direct-default-clause-refused
 returns-in_err-insert-in-Ok-Direct-default-clause-refused c =

@@ -1,7 +1,6 @@
 use Rattle.nb_member.proofs.Common.{refl, subst, ap, ◌∙◌, err_from_is_err_and, IsPacket, MemberValue, with_timed, outcome_of}
 use Rattle.nb_datagram.specs.Packet.{Packet}
 use Rattle.nb_member.proofs.member.Member.take_lent.Goals as goal
-use Rattle.nb_member.specs.Code.Outcomes.{answer_of}
 use Rattle.nb_member.specs.Taking.{fragment, error, query, no_packet}
 
 pub returns-in_ok-change-in-Ok-Direct-default : goal.returns-in_ok-change-in-Ok-Direct-default

@@ -1,4 +1,4 @@
-use Rattle.nb_member.proofs.Common.{◌≡◌, ◌∙◌, List, Key, ℕ, Some, ap, filter, not, rules, sym, subst, is_over, key_cmp, StandOnce}
+use Rattle.nb_member.proofs.Common.{◌≡◌, ◌∙◌, Key, ℕ, Some, ap, filter, not, rules, sym, subst, is_over, key_cmp, StandOnce}
 use Rattle.std.specs.FinMap as maps
 use Rattle.std.proofs.lemmas.Fn.{filter_same}
 use Rattle.nb_member.proofs.MemberLemmas.DroppedKeys.{once_running, running_is}

@@ -6,7 +6,7 @@ use Rattle.nb_names.specs.Name.{NetbiosName}
 use Rattle.nb_datagram.specs.declared.key.Key.{Key}
 use Rattle.nb_datagram.specs.Key.{key_cmp}
 use Rattle.nb_datagram.specs.Fragment.{FragmentParts}
-use Rattle.nb_table.specs.Limits.{TableValue}
+use Rattle.nb_table.specs.Limits.{Limits, TableValue}
 use Rattle.nb_table.specs.Insert.{with_fragment}
 use Rattle.nb_table.specs.Contents.{Contents}
 use Rattle.nb_member.specs.declared.settings.Settings.{Settings}
@@ -47,6 +47,10 @@ after_clock t now = record {
   moments = maps.retain_keys t.moments (lasts t.moments now);
 }
 
+-- an empty table with these limits
+abbrev pub empty_timed : Limits → TimedValue
+empty_timed limits = record { table = record { contents = maps.empty; limits = limits }; moments = maps.empty }
+
 -- ---- members
 
 -- a member: its settings, its names, and its table with the moments of its keys
@@ -61,14 +65,7 @@ contents m = m.timed.table.contents
 
 -- new_member settings names: a member with these settings and names, whose table is empty
 abbrev pub new_member : Settings → List NetbiosName → MemberValue
-new_member settings names = record {
-  settings = settings;
-  names = names;
-  timed = record {
-    table = record { contents = maps.empty; limits = limits_of settings };
-    moments = maps.empty;
-  };
-}
+new_member settings names = record { settings = settings; names = names; timed = empty_timed (limits_of settings) }
 
 -- with_timed m t: the member with another table; its settings and names stay
 abbrev pub with_timed : MemberValue → TimedValue → MemberValue

@@ -55,8 +55,7 @@ struct Log {
 }
 
 impl Log {
-    /// Lets the member take one event. Answers whether the event was refused, or why no
-    /// further one is taken.
+    /// Lets the member take one event: whether that was refused, or why no further one is taken.
     fn take(&mut self, member: &mut Member, event: &Event) -> Result<bool, RunStop>
         ensures step { (L : List Timed) → StandsOver member.old L →
             TakesEvent member.old L event.now member.new
@@ -85,8 +84,7 @@ impl Log {
         }
     }
 
-    /// Makes room for one more datagram and one more error packet, so that noting an answer takes
-    /// no memory, and answers whether there is room.
+    /// Makes room in which an answer is noted without memory, and says whether there is any.
     fn has_made_room(&mut self) -> bool
         ensures deliveries { self.new.deliveries.items ≡ self.old.deliveries.items }
         ensures errors { self.new.errors.items ≡ self.old.errors.items }

@@ -92,8 +92,7 @@ impl Member {
         Ok(self.take_lent(moment, payload)?.made())
     }
 
-    /// Takes a payload as [`Member::take`] does. The names of a datagram that is handed over are
-    /// lent from the payload.
+    /// Takes a payload as [`Member::take`] does, and lends the names of a datagram from it.
     pub(crate) fn take_lent<'a>(
         &mut self,
         moment: u64,
@@ -135,8 +134,7 @@ impl Member {
         }
     }
 
-    /// Which limit on keys the fragment that a payload begins with meets, if it is valid and meets
-    /// one. No memory is taken.
+    /// Which limit on keys a payload's fragment meets, if it is valid. No memory is taken.
     pub(crate) fn limit_met(&self, payload: &[u8]) -> Option<RunStop>
         ensures { MatchOption result ((stop : RunStop) → ¬ BeginsFull self.now payload.now stop)
             (BeginsFull self.now payload.now) }

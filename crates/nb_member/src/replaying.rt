@@ -100,7 +100,6 @@ pub fn replay_with<R: Read, W: Write>(
     ensures settings { member.new.settings ≡ member.old.settings }
     ensures names { member.new.names ≡ member.old.names }
 {
-    // The law that what is printed is the report of events; the call does nothing.
     a_printed_report_is_a_replay();
     let mut text = String::new(alloc);
     let mut report = Report {

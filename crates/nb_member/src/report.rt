@@ -32,8 +32,7 @@ pub(crate) fn tell_dropped<S: Sink>(dropped: Dropped, sink: &mut S) -> Result<()
     sink.number(COUNT, u64::from(dropped.keys))
 }
 
-/// Tells what became of a payload of port 138. Memory is taken for the bytes of an error packet,
-/// and by the sink.
+/// Tells what became of a payload of port 138. An error packet's bytes take memory.
 pub(crate) fn tell_taken<S: Sink>(
     alloc: Global,
     taken: Result<LentOutcome<'_>, MemberFault>,
@@ -157,7 +156,6 @@ pub fn push_parts(datagram: &Datagram, text: &mut String) -> Result<(), NoMemory
         (string_bytes text.new ≡ string_bytes text.old ++ parts_text datagram.now) }
     ensures front { OnlyAdds (string_bytes text.old) (string_bytes text.new) }
 {
-    // The law that the fields' text is the report's; the call does nothing.
     texts_of_reports();
     tell_parts(datagram, text)
 }

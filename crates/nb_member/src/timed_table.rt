@@ -8,7 +8,7 @@ ghost use Rattle.nb_table.specs.Insert.{Takes as TableTakes, Refuses};
 ghost use Rattle.nb_table.specs.Limits.{with_contents};
 ghost use Rattle.nb_table.specs.Merging.{Fits, IsRefused, newly_handed};
 ghost use Rattle.nb_member.specs.Taking.{IsMerged, start_after};
-ghost use Rattle.nb_member.specs.Member.{begun, after_fragment, after_clock, lasts};
+ghost use Rattle.nb_member.specs.Member.{empty_timed, begun, after_fragment, after_clock, lasts};
 ghost use Rattle.nb_member.specs.Live.{is_over};
 ghost use Rattle.nb_member.specs.Code.Members.{begun_each, HaveOneSetOfKeys, StandOnce};
 
@@ -42,13 +42,8 @@ impl Model for TimedTable {
 impl TimedTable {
     /// An empty table with these limits. No memory is taken.
     pub fn new(alloc: Global, keys: u32, per_source: u32, longest: u16) -> TimedTable
-        ensures { result ≡ record {
-          table = record {
-            contents = maps.empty;
-            limits = record { keys = keys; per_source = per_source; longest = longest };
-          };
-          moments = maps.empty;
-        } }
+        ensures { result
+            ≡ empty_timed (record { keys = keys; per_source = per_source; longest = longest }) }
     {
         TimedTable {
             table: Table::new(alloc, keys, per_source, longest),
@@ -63,8 +58,7 @@ impl TimedTable {
         &self.table
     }
 
-    /// Takes in a fragment that came at this moment, and says what that changed at its key, as far
-    /// as datagrams are handed over.
+    /// Takes in a fragment that came at this moment, and says what that changed at its key.
     pub fn insert(
         &mut self,
         moment: u64,
@@ -94,8 +88,7 @@ impl TimedTable {
         self.starts.expire(&mut self.table, now);
     }
 
-    /// Merges the other table, and gives the datagrams of the keys that become whole by this. The
-    /// keys that are new came at this moment.
+    /// Merges the other table at this moment, and gives the datagrams that become whole by this.
     pub fn merge(&mut self, other: &Table, moment: u64) -> Result<Datagrams, TableFault>
         ensures fits { OnOk result
             (Fits self.old.table.limits self.old.table.contents other.now.contents) }
@@ -179,8 +172,7 @@ impl Starts {
         Ok(())
     }
 
-    /// A copy, in which the timers of the other table's keys start at this moment, unless they run
-    /// already: those of the own table's keys do.
+    /// A copy, in which the other table's keys that the own one lacks start at this moment.
     pub fn with_keys(&self, own: &Table, other: &Table, moment: u64) -> Result<Starts, NoMemory>
         requires { HaveOneSetOfKeys own.now.contents self.now }
         ensures { IfOk result (λ starts. (k : Key) →
@@ -192,8 +184,7 @@ impl Starts {
         Ok(starts)
     }
 
-    /// Drops the keys whose timers have run out where the clock shows `now`, from the moments and
-    /// from the table. No memory is taken.
+    /// Drops the keys whose timers have run out at `now`, out of the table too.
     pub fn expire(&mut self, table: &mut Table, now: u64)
         ensures moments { self.new ≡ maps.retain_keys self.old (lasts self.old now) }
         ensures left { table.new

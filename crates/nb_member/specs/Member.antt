@@ -65,7 +65,14 @@ contents m = m.timed.table.contents
 
 -- new_member settings names: a member with these settings and names, whose table is empty
 abbrev pub new_member : Settings → List NetbiosName → MemberValue
-new_member settings names = record { settings = settings; names = names; timed = empty_timed (limits_of settings) }
+new_member settings names = record {
+  settings = settings;
+  names = names;
+  timed = record {
+    table = record { contents = maps.empty; limits = limits_of settings };
+    moments = maps.empty;
+  };
+}
 
 -- with_timed m t: the member with another table; its settings and names stay
 abbrev pub with_timed : MemberValue → TimedValue → MemberValue

@@ -1,5 +1,5 @@
 -- Fields of reports and listings.
-use Rattle.nb_member.proofs.Common.{◌≡◌, ℕ, List, [], ◌∷◌, ◌++◌, map, codes, Option, Some, None, Result, Ok, Err, refl, sym, ap, ◌∙◌, AllByRecursion, Key, ErrorPacket, Error, DatagramParts, packet_bytes, Contents, outline_at, ranges_at, datagram_at, Field, Ends, LineEnds, place_fields, Text, Range, field_text, text_of, Outcome, Kept, Delivered, Unheard, Other, MemberFault, error_of, further_range, key_fields, known_fields, more_fields, outline_fields, places_fields, ranges_fields, error_text, parts_text, result_text, dropped_fields, error_fields, parts_fields, result_fields, outcome_fields, passed_fields}
+use Rattle.nb_member.proofs.Common.{◌≡◌, ℕ, List, [], ◌∷◌, ◌++◌, map, codes, Option, Some, None, Result, Ok, Err, refl, subst, sym, ap, ◌∙◌, AllByRecursion, Key, ErrorPacket, Error, DatagramParts, packet_bytes, FragmentParts, Contents, outline_at, ranges_at, datagram_at, Field, Ends, LineEnds, place_fields, fold, NetbiosName, Text, Range, field_text, text_of, Outcome, Kept, Delivered, Unheard, Other, MemberFault, error_of, further_range, key_fields, known_fields, more_fields, outline_fields, places_fields, ranges_fields, error_text, parts_text, result_text, dropped_fields, error_fields, parts_fields, result_fields, outcome_fields, passed_fields}
 use Rattle.std.specs.Fmt.{decimal}
 use Rattle.std.proofs.lemmas.Grind.{flat_map-append}
 use Rattle.std.proofs.lemmas.List.{append_assoc, append-nil}
@@ -8,11 +8,14 @@ use Rattle.nb_names.specs.NameText.{written}
 use Rattle.nb_datagram.specs.FaultTexts.{key_text, kind_text}
 use Rattle.nb_entries.specs.declared.outline.Outline.{Outline}
 use Rattle.nb_entries.specs.declared.ranges.PlaceRange.{PlaceRange}
+use Rattle.nb_datagram.specs.declared.key.Kind.{Kind}
+use Rattle.nb_datagram.specs.Fragment.{datagram_by}
+use Rattle.nb_telling.specs.Telling.{Begins, Data}
 use Rattle.nb_telling.specs.Members.{AreMembers, AreParts, IsMember, nothing, member, list, both, no_part, range, words, parts}
 use Rattle.nb_member.specs.declared.outcome.Outcome.TheVariants.{Spoilt}
 use Rattle.nb_member.specs.FaultTexts.{member_fault_place, member_fault_text}
 use Rattle.nb_member.specs.Listing.{end_text, key_line, known_text, more_ranges_text, more_text, partial_text, range_text, ranges_text}
-use Rattle.nb_member.specs.Tags.{listed_tag, refused_tag, state_tag, outcome_tag, key_tag}
+use Rattle.nb_member.specs.Tags.{data_tag, destination_tag, kind_tag, listed_tag, refused_tag, source_tag, state_tag, outcome_tag, key_tag}
 use Rattle.nb_telling.specs.Texts as telling
 
 -- ---- the text of the fields of a report and of a listing is that of the report and of the listing
@@ -54,9 +57,6 @@ ranges_same : (rs : List PlaceRange) → text_of (ranges_fields rs) ≡ codes " 
 ranges_same [] = refl
 ranges_same (r ∷ rs) = ap (λ (t : List ℕ). codes " " ++ (range_text r ++ t)) (further_same rs)
 
-places_same : (rs : List PlaceRange) → text_of (places_fields rs) ≡ codes " " ++ ranges_text rs
-places_same rs = flat_map-append field_text (ranges_fields rs) (Ends ∷ []) ∙ append-nil (text_of (ranges_fields rs)) ∙ ranges_same rs
-
 more_same : (place : Option ℕ) → text_of (more_fields place) ≡ more_text place
 more_same None = refl
 more_same (Some place) = append-nil (codes " more " ++ decimal place)
@@ -74,10 +74,10 @@ pieces : (kind source destination held end runs rest : List ℕ)
 pieces kind source destination held end runs rest = simp append_assoc
 
 after_outline : (o : Outline) (rs : List PlaceRange)
-    → text_of (places_fields rs ++ more_fields o.awaited) ≡ codes " " ++ (ranges_text rs ++ more_text o.awaited)
+    → text_of (places_fields rs o.awaited) ≡ codes " " ++ (ranges_text rs ++ more_text o.awaited)
 after_outline o rs =
-    flat_map-append field_text (places_fields rs) (more_fields o.awaited)
-    ∙ ap (λ (t : List ℕ). t ++ text_of (more_fields o.awaited)) (places_same rs)
+    flat_map-append field_text (ranges_fields rs) (Ends ∷ more_fields o.awaited)
+    ∙ ap (λ (t : List ℕ). t ++ text_of (more_fields o.awaited)) (ranges_same rs)
     ∙ ap (λ (t : List ℕ). codes " " ++ (ranges_text rs ++ t)) (more_same o.awaited)
 
 -- the outline's text before another
@@ -87,9 +87,9 @@ with_outline o end rest =
     ++ (decimal o.held ++ (codes "/" ++ (end ++ (codes " " ++ (decimal o.runs ++ rest)))))))))))
 
 partial_same : (o : Outline) (rs : List PlaceRange)
-    → text_of (outline_fields o ++ (places_fields rs ++ more_fields o.awaited)) ≡ codes " " ++ partial_text o rs
+    → text_of (outline_fields o ++ places_fields rs o.awaited) ≡ codes " " ++ partial_text o rs
 partial_same o rs =
-    ap (λ (end : List ℕ). with_outline o end (text_of (places_fields rs ++ more_fields o.awaited))) (end_same o.end)
+    ap (λ (end : List ℕ). with_outline o end (text_of (places_fields rs o.awaited))) (end_same o.end)
     ∙ ap (λ (rest : List ℕ). with_outline o (end_text o.end) rest) (after_outline o rs)
     ∙ pieces (kind_text o.kind) (written o.source) (written o.destination) (decimal o.held) (end_text o.end) (decimal o.runs)
     (ranges_text rs ++ more_text o.awaited)
@@ -162,9 +162,10 @@ more_members (Some place) = all_members (more_fields (Some place)) (tt, tt)
 known_members : (d : Option DatagramParts) (o : Option Outline) (rs : List PlaceRange) → AreMembers 1 (known_fields d o rs)
 known_members (Some d) o rs = all_members (known_fields (Some d) o rs) (tt, (tt, (tt, (tt, (tt, tt)))))
 known_members None (Some o) rs =
-    both (Text state_tag (codes "partial") ∷ outline_fields o) (places_fields rs ++ more_fields o.awaited)
+    both (Text state_tag (codes "partial") ∷ outline_fields o) (places_fields rs o.awaited)
     (all_members _ (tt, (tt, (tt, (tt, (tt, (tt, (tt, tt))))))))
-    (both (places_fields rs) (more_fields o.awaited) (list (codes "places") (ranges_fields rs) (ranges_parts rs)) (more_members o.awaited))
+    (subst (λ (fields : List Field). AreMembers 1 (Begins (codes "places") ∷ fields)) (append_assoc (ranges_fields rs) (Ends ∷ []) (more_fields o.awaited))
+    (both (Begins (codes "places") ∷ (ranges_fields rs ++ Ends ∷ [])) (more_fields o.awaited) (list (codes "places") (ranges_fields rs) (ranges_parts rs)) (more_members o.awaited)))
 known_members None None rs = all_members (known_fields None None rs) (tt, tt)
 
 pub key_members : (t : Contents) (k : Key) → AreMembers 1 (key_fields t k)
@@ -172,3 +173,15 @@ key_members t k =
     both (Text listed_tag (key_text k) ∷ []) _ (all_members _ (tt, tt))
     (both (known_fields (datagram_at t k) (outline_at t k) (ranges_at t k)) (LineEnds ∷ [])
     (known_members (datagram_at t k) (outline_at t k) (ranges_at t k)) (all_members (LineEnds ∷ []) (tt, tt)))
+
+-- ---- what was told part by part
+
+-- what is told of the datagram of the fragment f with this data
+pub told_delivered : {A : Type 0} (after : A → Field → A) (old : A) (f : FragmentParts) (sent : List ℕ) {key : Key} {kind : Kind}
+    {source destination : NetbiosName} {bytes : List ℕ} {mid new : A} → key ≡ f.key → kind ≡ f.kind → source ≡ f.source
+    → destination ≡ f.destination → bytes ≡ sent
+    → mid ≡ fold after old (Text outcome_tag (codes "delivered") ∷ Text key_tag (key_text key) ∷ [])
+    → new ≡ fold after mid (Text kind_tag (kind_text kind) ∷ Text source_tag (written source) ∷ Text destination_tag (written destination)
+    ∷ Data data_tag bytes ∷ [])
+    → new ≡ fold after old (outcome_fields (Delivered (datagram_by f sent)))
+told_delivered after old f sent a b c d e first more = cc (a, b, c, d, e, first, more)

@@ -22,14 +22,14 @@ abbrev pub ranges_fields : List PlaceRange → List Field
 ranges_fields [] = Words (codes " -") ∷ []
 ranges_fields (r ∷ rs) = Range (codes " ") r.from r.to ∷ map further_range rs
 
--- the list of them
-abbrev pub places_fields : List PlaceRange → List Field
-places_fields rs = Begins (codes "places") ∷ (ranges_fields rs ++ Ends ∷ [])
-
 -- the place of a promise that reaches past all that is known, where there is one
 abbrev pub more_fields : Option ℕ → List Field
 more_fields None = []
 more_fields (Some place) = Number more_tag place ∷ []
+
+-- places_fields rs awaited: the list of the ranges rs, and then that place
+abbrev pub places_fields : List PlaceRange → Option ℕ → List Field
+places_fields rs awaited = Begins (codes "places") ∷ (ranges_fields rs ++ Ends ∷ more_fields awaited)
 
 -- kind, source and destination, how many bytes are held of how many, and in how many runs
 abbrev pub outline_fields : Outline → List Field
@@ -40,8 +40,7 @@ outline_fields o =
 -- what is said of a key that is held: its datagram, if it is whole, or what is known of it, or else that it is spoilt
 abbrev pub known_fields : Option DatagramParts → Option Outline → List PlaceRange → List Field
 known_fields (Some d) o rs = Text state_tag (codes "whole") ∷ parts_fields d
-known_fields None (Some o) rs =
-    Text state_tag (codes "partial") ∷ (outline_fields o ++ (places_fields rs ++ more_fields o.awaited))
+known_fields None (Some o) rs = Text state_tag (codes "partial") ∷ (outline_fields o ++ places_fields rs o.awaited)
 known_fields None None rs = Text state_tag (codes "spoilt") ∷ []
 
 -- key_fields t k: of a key k that the table t holds

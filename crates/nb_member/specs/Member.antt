@@ -6,7 +6,7 @@ use Rattle.nb_names.specs.Name.{NetbiosName}
 use Rattle.nb_datagram.specs.declared.key.Key.{Key}
 use Rattle.nb_datagram.specs.Key.{key_cmp}
 use Rattle.nb_datagram.specs.Fragment.{FragmentParts}
-use Rattle.nb_table.specs.Limits.{TableValue}
+use Rattle.nb_table.specs.Limits.{Limits, TableValue}
 use Rattle.nb_table.specs.Insert.{with_fragment}
 use Rattle.nb_table.specs.Contents.{Contents}
 use Rattle.nb_member.specs.declared.settings.Settings.{Settings}
@@ -46,6 +46,10 @@ after_clock t now = record {
   };
   moments = maps.retain_keys t.moments (lasts t.moments now);
 }
+
+-- an empty table with these limits
+abbrev pub empty_timed : Limits → TimedValue
+empty_timed limits = record { table = record { contents = maps.empty; limits = limits }; moments = maps.empty }
 
 -- ---- members
 

@@ -1,7 +1,6 @@
 //! Taking events in a row.
-ghost use Rattle.std.specs.Prelude.{◌≡◌, ◌<◌, ◌++◌, List, [], IsTrue, OnErr, vec_len, vec_capacity};
+ghost use Rattle.std.specs.Prelude.{◌≡◌, ◌<◌, ◌++◌, List, IsTrue, OnErr, vec_len, vec_capacity};
 ghost use Rattle.std.specs.Option.{option_to_list};
-ghost use Rattle.nb_member.specs.declared.outcome.Event.TheVariants as event;
 ghost use Rattle.nb_member.specs.Deliveries.{delivery_in, error_in};
 ghost use Rattle.nb_member.specs.Code.Members.{KeepsSetup};
 ghost use Rattle.nb_member.specs.Live.{Timed};
@@ -30,7 +29,10 @@ use std::alloc::Global;
 pub fn run(alloc: Global, member: &mut Member, events: &[Event]) -> RunReport
     ensures { TakesEvents member.old events.now member.new result }
 {
-    let mut log = Log::new(alloc);
+    let mut log = Log {
+        deliveries: Vec::new(alloc),
+        errors: Vec::new(alloc),
+    };
     let mut refused = 0;
     for (index, event) in events.iter().enumerate() {
         match log.take(member, event) {
@@ -53,19 +55,7 @@ struct Log {
 }
 
 impl Log {
-    /// Nothing. No memory is taken.
-    fn new(alloc: Global) -> Log
-        ensures deliveries { result.deliveries.items ≡ [] }
-        ensures errors { result.errors.items ≡ [] }
-    {
-        Log {
-            deliveries: Vec::new(alloc),
-            errors: Vec::new(alloc),
-        }
-    }
-
-    /// Lets the member take one event. Answers whether the event was refused, or why no
-    /// further one is taken.
+    /// Lets the member take one event: whether that was refused, or why no further one is taken.
     fn take(&mut self, member: &mut Member, event: &Event) -> Result<bool, RunStop>
         ensures step { (L : List Timed) → StandsOver member.old L →
             TakesEvent member.old L event.now member.new
@@ -76,9 +66,16 @@ impl Log {
         ensures kept { KeepsSetup member.old member.new }
     {
         a_member_drops_what_the_clock_ends();
+        a_member_does_what_is_said();
+        an_answer_shows_what_is_handed_out();
         match event {
             Event::Packet { moment, payload } => {
-                self.take_packet(member, *moment, payload.as_slice())
+                let payload = payload.as_slice();
+                if !self.has_made_room() {
+                    return Err(member.limit_met(payload).unwrap_or(RunStop::NoMemory));
+                }
+                let answer = member.take(*moment, payload);
+                self.note(answer)
             }
             Event::Tick { now } => {
                 member.tick(*now);
@@ -87,31 +84,7 @@ impl Log {
         }
     }
 
-    /// Lets the member take a payload that came at this moment, and answers the same.
-    fn take_packet(
-        &mut self,
-        member: &mut Member,
-        moment: u64,
-        payload: &[u8],
-    ) -> Result<bool, RunStop>
-        ensures step { (L : List Timed) → StandsOver member.old L →
-            TakesEvent member.old L (event.Packet moment payload.now) member.new
-            (record { deliveries = self.old.deliveries.items; errors = self.old.errors.items })
-            (record { deliveries = self.new.deliveries.items; errors = self.new.errors.items })
-            result }
-        ensures kept { KeepsSetup member.old member.new }
-    {
-        a_member_does_what_is_said();
-        an_answer_shows_what_is_handed_out();
-        if !self.has_made_room() {
-            return Err(member.limit_met(payload).unwrap_or(RunStop::NoMemory));
-        }
-        let answer = member.take(moment, payload);
-        self.note(answer)
-    }
-
-    /// Makes room for one more datagram and one more error packet, so that noting an answer takes
-    /// no memory, and answers whether there is room.
+    /// Makes room in which an answer is noted without memory, and says whether there is any.
     fn has_made_room(&mut self) -> bool
         ensures deliveries { self.new.deliveries.items ≡ self.old.deliveries.items }
         ensures errors { self.new.errors.items ≡ self.old.errors.items }

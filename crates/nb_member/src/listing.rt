@@ -8,7 +8,7 @@ ghost use Rattle.nb_telling.specs.Telling.{Grows};
 ghost use Rattle.nb_telling.specs.ObjectLines.{IsObject};
 ghost use Rattle.nb_table.specs.Contents.{outline_at, ranges_at, datagram_at};
 ghost use Rattle.nb_member.specs.Listing.{key_line, listing};
-ghost use Rattle.nb_member.specs.ListingFields.{key_fields, listed_objects, further_range, known_fields, more_fields, outline_fields, places_fields, ranges_fields};
+ghost use Rattle.nb_member.specs.ListingFields.{key_fields, listed_objects, further_range, known_fields, outline_fields, places_fields, ranges_fields};
 
 use crate::laws::{fields_are_members, texts_of_listings};
 use crate::report::tell_parts;
@@ -49,7 +49,6 @@ pub fn push_key_line(table: &Table, key: Key, text: &mut String) -> Result<(), N
         (string_bytes text.new ≡ string_bytes text.old ++ key_line table.now.contents key) }
     ensures front { OnlyAdds (string_bytes text.old) (string_bytes text.new) }
 {
-    // The law that the fields' text is the line; the call does nothing.
     texts_of_listings();
     tell_key(table, key, text)
 }
@@ -76,7 +75,6 @@ pub fn list_objects(alloc: Global, table: &Table) -> Result<Vec<u8>, NoMemory>
 fn key_object(table: &Table, key: Key, room: JsonRoom) -> Result<JsonRoom, NoMemory>
     ensures { IfOk result (IsObject (key_fields table.now.contents key)) }
 {
-    // The law that makes the fields members; the call does nothing.
     fields_are_members();
     let mut sink = JsonSink::begin(room)?;
     tell_key(table, key, &mut sink)?;
@@ -120,8 +118,7 @@ fn tell_known<S: Sink>(table: &Table, key: &Key, sink: &mut S) -> Result<(), NoM
         Some(outline) => {
             sink.text(STATE, "partial")?;
             tell_outline(&outline, sink)?;
-            tell_places(table.ranges(key), sink)?;
-            tell_more(outline.awaited, sink)
+            tell_places(table.ranges(key), outline.awaited, sink)
         }
         None => sink.text(STATE, "spoilt"),
     }
@@ -141,15 +138,23 @@ fn tell_outline<S: Sink>(outline: &Outline, sink: &mut S) -> Result<(), NoMemory
     sink.number(RUNS, u64::from(outline.runs))
 }
 
-/// Tells the list of the ranges of known places.
-fn tell_places<S: Sink>(ranges: Ranges<'_>, sink: &mut S) -> Result<(), NoMemory>
+/// Tells the list of the ranges of known places, and then the place of a promise past these.
+fn tell_places<S: Sink>(
+    ranges: Ranges<'_>,
+    awaited: Option<u32>,
+    sink: &mut S,
+) -> Result<(), NoMemory>
     ensures told { OnOk result
-        (S.seen sink.new ≡ fold S.after (S.seen sink.old) (places_fields ranges.entry)) }
+        (S.seen sink.new ≡ fold S.after (S.seen sink.old) (places_fields ranges.entry awaited)) }
     ensures front { Grows S.is_front (S.seen sink.old) (S.seen sink.new) }
 {
     sink.begins("places")?;
     tell_ranges(ranges, sink)?;
-    sink.ends()
+    sink.ends()?;
+    match awaited {
+        Some(place) => sink.number(MORE, u64::from(place)),
+        None => Ok(()),
+    }
 }
 
 /// Tells ranges of places.
@@ -177,16 +182,4 @@ fn tell_further<S: Sink>(ranges: Ranges<'_>, sink: &mut S) -> Result<(), NoMemor
         sink.range(",", u64::from(range.from), u64::from(range.to))?;
     }
     Ok(())
-}
-
-/// Tells the place of a promise that reaches past all that is known, where there is one.
-fn tell_more<S: Sink>(awaited: Option<u32>, sink: &mut S) -> Result<(), NoMemory>
-    ensures told { OnOk result
-        (S.seen sink.new ≡ fold S.after (S.seen sink.old) (more_fields awaited)) }
-    ensures front { Grows S.is_front (S.seen sink.old) (S.seen sink.new) }
-{
-    match awaited {
-        Some(place) => sink.number(MORE, u64::from(place)),
-        None => Ok(()),
-    }
 }

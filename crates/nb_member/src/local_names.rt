@@ -82,10 +82,7 @@ impl LocalNames {
         if MAX_NAMES <= self.names.len() {
             return Err(AddFault::TooMany);
         }
-        match self.names.push(name) {
-            Ok(()) => Ok(()),
-            Err(_) => Err(AddFault::NoMemory),
-        }
+        self.names.push(name).map_err(|_| AddFault::NoMemory)
     }
 
     /// Whether this name is held. No memory is taken.

@@ -1,14 +1,13 @@
 //! Members.
 ghost use Rattle.std.specs.Prelude.{◌≡◌, ◌+◌, Ok, Err, filter, IfOk, OnOk, IfErr, OnErr, MatchOption};
 ghost use Rattle.std.specs.FinMap as maps;
-ghost use Rattle.nb_datagram.specs.Fragment.{datagram_by};
 ghost use Rattle.nb_entries.specs.Change.{made_by};
 ghost use Rattle.nb_table.specs.Merging.{IsRefused};
 ghost use Rattle.nb_member.specs.Events.{limits_of};
 ghost use Rattle.nb_member.specs.Member.{contents, new_member, with_timed, after_clock};
 ghost use Rattle.nb_member.specs.Hearing.{hears};
-ghost use Rattle.nb_member.specs.Taking.{Absorbs, Previews, Takes, TakesFragment, handed, outcome_of};
-ghost use Rattle.nb_member.specs.Code.Members.{MeetsFull, BeginsFull, limit_of};
+ghost use Rattle.nb_member.specs.Taking.{Absorbs, Previews, Takes, outcome_of};
+ghost use Rattle.nb_member.specs.Code.Members.{BeginsFull, limit_of};
 ghost use Rattle.nb_member.specs.Code.Outcomes.{made_of, answer_of};
 ghost use Rattle.nb_member.specs.declared.outcome.Outcome.{Outcome};
 ghost use Rattle.nb_member.specs.declared.event_taking.RunStop.{RunStop};
@@ -18,6 +17,7 @@ use crate::local_names::LocalNames;
 use crate::outcome::{Dropped, LentOutcome, MemberFault, Outcome};
 use crate::settings::Settings;
 use crate::timed_table::TimedTable;
+use nb_datagram::error_codes::DESTINATION_NAME_NOT_PRESENT;
 use nb_datagram::{Datagrams, LentFragment, LentPacket, UserData, decode_lent};
 use nb_table::{Change, Handing, Table, TableFault};
 use std::alloc::Global;
@@ -89,14 +89,10 @@ impl Member {
     pub fn take(&mut self, moment: u64, payload: &[u8]) -> Result<Outcome, MemberFault>
         ensures { Takes self.old moment payload.now self.new result }
     {
-        match self.take_lent(moment, payload) {
-            Ok(outcome) => Ok(outcome.made()),
-            Err(fault) => Err(fault),
-        }
+        Ok(self.take_lent(moment, payload)?.made())
     }
 
-    /// Takes a payload as [`Member::take`] does. The names of a datagram that is handed over are
-    /// lent from the payload.
+    /// Takes a payload as [`Member::take`] does, and lends the names of a datagram from it.
     pub(crate) fn take_lent<'a>(
         &mut self,
         moment: u64,
@@ -105,7 +101,10 @@ impl Member {
         ensures { Takes self.old moment payload.now self.new (answer_of result) }
     {
         match decode_lent(payload) {
-            Ok((LentPacket::Direct(fragment), _)) => self.take_fragment(moment, fragment),
+            Ok((LentPacket::Direct(fragment), _)) => {
+                let change = self.timed.insert(moment, &fragment, Handing::Over)?;
+                Ok(outcome_of(&self.settings, &self.names, fragment, change))
+            }
             Ok((LentPacket::Error(_), _)) => Ok(LentOutcome::Other),
             Ok((LentPacket::Query(_), _)) => Ok(LentOutcome::Other),
             Err(fault) => Err(MemberFault::Packet(fault, self.settings.error_for(payload, fault))),
@@ -125,56 +124,29 @@ impl Member {
             Takes self.old moment payload.now self.new (Err fault)) }
     {
         match decode_lent(payload) {
-            Ok((LentPacket::Direct(fragment), _)) => self.hold_fragment(moment, &fragment),
+            Ok((LentPacket::Direct(fragment), _)) => {
+                self.timed.insert(moment, &fragment, Handing::Kept)?;
+                Ok(())
+            }
             Ok((LentPacket::Error(_), _)) => Ok(()),
             Ok((LentPacket::Query(_), _)) => Ok(()),
             Err(fault) => Err(MemberFault::Packet(fault, self.settings.error_for(payload, fault))),
         }
     }
 
-    /// Takes a fragment that came at this moment.
-    fn take_fragment<'a>(
-        &mut self,
-        moment: u64,
-        fragment: LentFragment<'a>,
-    ) -> Result<LentOutcome<'a>, MemberFault>
-        ensures { TakesFragment self.old moment fragment.entry self.new (answer_of result) }
-    {
-        let change = self.timed.insert(moment, &fragment, Handing::Over)?;
-        Ok(outcome_of(&self.settings, &self.names, fragment, change))
-    }
-
-    /// Takes a fragment that came at this moment, and hands nothing over.
-    fn hold_fragment(&mut self, moment: u64, fragment: &LentFragment<'_>) -> Result<(), MemberFault>
-        ensures taken { OnOk result ((outcome : Outcome) ×
-            TakesFragment self.old moment fragment.now self.new (Ok outcome)) }
-        ensures refused { IfErr result (λ fault.
-            TakesFragment self.old moment fragment.now self.new (Err fault)) }
-    {
-        self.timed.insert(moment, fragment, Handing::Kept)?;
-        Ok(())
-    }
-
-    /// Which limit on keys the fragment that a payload begins with meets, if it is valid and meets
-    /// one. No memory is taken.
+    /// Which limit on keys a payload's fragment meets, if it is valid. No memory is taken.
     pub(crate) fn limit_met(&self, payload: &[u8]) -> Option<RunStop>
         ensures { MatchOption result ((stop : RunStop) → ¬ BeginsFull self.now payload.now stop)
             (BeginsFull self.now payload.now) }
     {
         match decode_lent(payload) {
-            Ok((LentPacket::Direct(fragment), _)) => self.limit_met_by(&fragment),
+            Ok((LentPacket::Direct(fragment), _)) => {
+                limit_of(self.timed.table().refusal_of_lent(&fragment))
+            }
             Ok((LentPacket::Error(_), _)) => None,
             Ok((LentPacket::Query(_), _)) => None,
             Err(_) => None,
         }
-    }
-
-    /// Which limit on keys a fragment meets, if it is valid and meets one.
-    fn limit_met_by(&self, fragment: &LentFragment<'_>) -> Option<RunStop>
-        ensures { MatchOption result ((stop : RunStop) → ¬ MeetsFull self.now fragment.now stop)
-            (MeetsFull self.now fragment.now) }
-    {
-        limit_of(self.timed.table().refusal_of_lent(fragment))
     }
 
     /// Looks at the clock, which shows `now`: drops each key, whatever is known of it, that came at
@@ -251,26 +223,16 @@ fn outcome_of<'a>(
 {
     match change {
         Change::Spoilt => LentOutcome::Spoilt(fragment.key()),
-        Change::Whole(bytes) => handed(settings, names, fragment, bytes),
-        Change::Same => LentOutcome::Kept(fragment.key()),
-        Change::Grown => LentOutcome::Kept(fragment.key()),
+        Change::Whole(bytes) => {
+            if names.hears_as(fragment.kind(), fragment.destination()) {
+                return LentOutcome::Delivered(fragment, bytes);
+            }
+            let code = DESTINATION_NAME_NOT_PRESENT;
+            let key = fragment.key();
+            LentOutcome::Unheard(key, settings.error_about(fragment.kind(), key.id, code))
+        }
+        Change::Same | Change::Grown => LentOutcome::Kept(fragment.key()),
     }
-}
-
-/// What is answered where a fragment's datagram became whole, with this data.
-fn handed<'a>(
-    settings: &Settings,
-    names: &LocalNames,
-    fragment: LentFragment<'a>,
-    bytes: UserData,
-) -> LentOutcome<'a>
-    ensures { made_of result ≡ handed settings.now names.now fragment.entry.key
-        (datagram_by fragment.entry bytes) }
-{
-    if names.hears_as(fragment.kind(), fragment.destination()) {
-        return LentOutcome::Delivered(fragment, bytes);
-    }
-    LentOutcome::Unheard(fragment.key(), settings.unheard(&fragment))
 }
 
 /// Those of the datagrams that a member with these names hears, in order. No memory is taken.

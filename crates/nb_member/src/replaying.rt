@@ -8,10 +8,10 @@ ghost use Rattle.nb_member.specs.Member.{MemberValue};
 ghost use Rattle.nb_member.specs.ReportFields.{MayLeave, ReportSaid};
 
 use crate::laws::a_printed_report_is_a_replay;
-use crate::line_reports::act_on;
+use crate::line_reports::outcome_line;
 use crate::member::Member;
 use nb_capture::{
-    CaptureOptions, Comments, Line, LineText, PrintFault as ReplayFault, print_lines,
+    CaptureOptions, Comments, Line, LineText, PrintFault as ReplayFault, print_lines, push_comment,
 };
 use nb_streams::limits::MAX_INPUT;
 use nb_streams::{Counted, NoMemory};
@@ -100,7 +100,6 @@ pub fn replay_with<R: Read, W: Write>(
     ensures settings { member.new.settings ≡ member.old.settings }
     ensures names { member.new.names ≡ member.old.names }
 {
-    // The law that what is printed is the report of events; the call does nothing.
     a_printed_report_is_a_replay();
     let mut text = String::new(alloc);
     let mut report = Report {
@@ -141,7 +140,13 @@ impl<'a> LineText for Report<'a> {
         said: &Option<Line>,
         comments: Comments,
     ) -> Result<(), NoMemory> {
-        act_on(number, line, said, comments, self.member, self.text)
+        match said {
+            None => {
+                self.text.clear();
+                push_comment(comments, line, self.text)
+            }
+            Some(said) => outcome_line(number, said, self.member, self.text),
+        }
     }
 
     fn bytes(&self) -> &[u8] {

@@ -2,35 +2,25 @@
 //! report as text.
 #![tactic(auto, using(nb_telling::proofs::FoldLemmas::told_both))]
 
-ghost use Rattle.std.specs.Prelude.{◌≡◌, ◌∷◌, ◌++◌, [], OnOk, fold, string_bytes};
+ghost use Rattle.std.specs.Prelude.{◌≡◌, ◌≢◌, ◌∷◌, ◌++◌, [], Err, OnOk, fold, string_bytes};
 ghost use Rattle.nb_names.specs.NameText.{written};
 ghost use Rattle.nb_streams.specs.Growth.{OnlyAdds};
-ghost use Rattle.nb_datagram.specs.Fragment.{datagram_by};
 ghost use Rattle.nb_datagram.specs.FaultTexts.{key_text, kind_text};
 ghost use Rattle.nb_telling.specs.Telling.{Grows, Text, Data};
 ghost use Rattle.nb_member.specs.Tags.{outcome_tag, key_tag, kind_tag, source_tag, destination_tag, data_tag};
-ghost use Rattle.nb_member.specs.declared.outcome.Outcome.TheVariants.{Delivered, Unheard};
+ghost use Rattle.nb_member.specs.Code.Outcomes.{answer_of};
 ghost use Rattle.nb_member.specs.Report.{parts_text};
-ghost use Rattle.nb_member.specs.ReportFields.{dropped_fields, error_fields, outcome_fields, parts_fields, passed_fields, refused_fields};
+ghost use Rattle.nb_member.specs.ReportFields.{dropped_fields, error_fields, parts_fields, refused_fields, result_fields};
 
 use crate::laws::texts_of_reports;
-use crate::outcome::{Dropped, MemberFault, Outcome};
+use crate::outcome::{Dropped, LentOutcome, MemberFault};
 use crate::tags::{COUNT, DATA, DESTINATION, ERROR, KEY, KIND, OUTCOME, REFUSED, SOURCE};
-use nb_datagram::{
-    Datagram, ErrorPacket, Key, Kind, LentFragment, Packet, UserData, encode, kind_name,
-};
+use nb_datagram::{Datagram, ErrorPacket, Key, Kind, Packet, encode, kind_name};
 use nb_names::LentName;
 use nb_streams::NoMemory;
+use nb_table::TableFault;
 use nb_telling::{Sink, tell_place};
 use std::alloc::Global;
-
-/// Tells that a payload isn't the member's to take.
-pub(crate) fn tell_passed<S: Sink>(sink: &mut S) -> Result<(), NoMemory>
-    ensures told { OnOk result (S.seen sink.new ≡ fold S.after (S.seen sink.old) passed_fields) }
-    ensures front { Grows S.is_front (S.seen sink.old) (S.seen sink.new) }
-{
-    sink.text(OUTCOME, "passed")
-}
 
 /// Tells what a look at the clock dropped.
 pub(crate) fn tell_dropped<S: Sink>(dropped: Dropped, sink: &mut S) -> Result<(), NoMemory>
@@ -42,23 +32,37 @@ pub(crate) fn tell_dropped<S: Sink>(dropped: Dropped, sink: &mut S) -> Result<()
     sink.number(COUNT, u64::from(dropped.keys))
 }
 
-/// Tells what became of a payload that was taken. Memory is taken for the bytes of an error packet,
-/// and by the sink.
-pub(crate) fn tell_outcome<S: Sink>(
+/// Tells what became of a payload of port 138. An error packet's bytes take memory.
+pub(crate) fn tell_taken<S: Sink>(
     alloc: Global,
-    outcome: &Outcome,
+    taken: Result<LentOutcome<'_>, MemberFault>,
     sink: &mut S,
 ) -> Result<(), NoMemory>
     ensures told { OnOk result
-        (S.seen sink.new ≡ fold S.after (S.seen sink.old) (outcome_fields outcome.now)) }
+        ((answer_of taken.entry ≢ Err (MemberFault.Table TableFault.NoMemory)) × (S.seen sink.new
+        ≡ fold S.after (S.seen sink.old) (result_fields (answer_of taken.entry)))) }
     ensures front { Grows S.is_front (S.seen sink.old) (S.seen sink.new) }
 {
-    match outcome {
-        Outcome::Kept(key) => tell_of("kept", *key, sink),
-        Outcome::Spoilt(key) => tell_of("spoilt", *key, sink),
-        Outcome::Delivered(datagram) => tell_datagram(datagram, sink),
-        Outcome::Unheard(key, error) => tell_unheard(alloc, *key, *error, sink),
-        Outcome::Other => sink.text(OUTCOME, "other"),
+    match taken {
+        Ok(LentOutcome::Kept(key)) => tell_of("kept", key, sink),
+        Ok(LentOutcome::Spoilt(key)) => tell_of("spoilt", key, sink),
+        Ok(LentOutcome::Delivered(fragment, bytes)) => {
+            tell_of("delivered", fragment.key(), sink)?;
+            tell_lent(
+                fragment.kind(),
+                fragment.source(),
+                fragment.destination(),
+                bytes.as_slice(),
+                sink,
+            )
+        }
+        Ok(LentOutcome::Unheard(key, error)) => {
+            tell_of("unheard", key, sink)?;
+            tell_error(alloc, error, sink)
+        }
+        Ok(LentOutcome::Other) => sink.text(OUTCOME, "other"),
+        Err(MemberFault::Table(TableFault::NoMemory)) => Err(NoMemory),
+        Err(fault) => tell_refused(alloc, fault, sink),
     }
 }
 
@@ -73,37 +77,8 @@ fn tell_of<S: Sink>(word: &str, key: Key, sink: &mut S) -> Result<(), NoMemory>
     sink.shown(KEY, &key)
 }
 
-/// Tells that a datagram was delivered.
-fn tell_datagram<S: Sink>(datagram: &Datagram, sink: &mut S) -> Result<(), NoMemory>
-    ensures told { OnOk result (S.seen sink.new ≡ fold S.after (S.seen sink.old)
-        (outcome_fields (Delivered datagram.now))) }
-    ensures front { Grows S.is_front (S.seen sink.old) (S.seen sink.new) }
-{
-    tell_of("delivered", datagram.key(), sink)?;
-    tell_parts(datagram, sink)
-}
-
-/// Tells that a datagram with this key isn't heard, and the error packet, if there is one.
-fn tell_unheard<S: Sink>(
-    alloc: Global,
-    key: Key,
-    error: Option<ErrorPacket>,
-    sink: &mut S,
-) -> Result<(), NoMemory>
-    ensures told { OnOk result
-        (S.seen sink.new ≡ fold S.after (S.seen sink.old) (outcome_fields (Unheard key error))) }
-    ensures front { Grows S.is_front (S.seen sink.old) (S.seen sink.new) }
-{
-    tell_of("unheard", key, sink)?;
-    tell_error(alloc, error, sink)
-}
-
 /// Tells why a payload was refused.
-pub(crate) fn tell_refused<S: Sink>(
-    alloc: Global,
-    fault: MemberFault,
-    sink: &mut S,
-) -> Result<(), NoMemory>
+fn tell_refused<S: Sink>(alloc: Global, fault: MemberFault, sink: &mut S) -> Result<(), NoMemory>
     ensures told { OnOk result
         (S.seen sink.new ≡ fold S.after (S.seen sink.old) (refused_fields fault)) }
     ensures front { Grows S.is_front (S.seen sink.old) (S.seen sink.new) }
@@ -152,26 +127,6 @@ fn tell_lent<S: Sink>(
     sink.data(DATA, bytes)
 }
 
-/// Tells that the datagram of a fragment was delivered, whose data this is.
-pub(crate) fn tell_delivered<S: Sink>(
-    fragment: &LentFragment<'_>,
-    bytes: &UserData,
-    sink: &mut S,
-) -> Result<(), NoMemory>
-    ensures told { OnOk result (S.seen sink.new ≡ fold S.after (S.seen sink.old)
-        (outcome_fields (Delivered (datagram_by fragment.now bytes.now)))) }
-    ensures front { Grows S.is_front (S.seen sink.old) (S.seen sink.new) }
-{
-    tell_of("delivered", fragment.key(), sink)?;
-    tell_lent(
-        fragment.kind(),
-        fragment.source(),
-        fragment.destination(),
-        bytes.as_slice(),
-        sink,
-    )
-}
-
 /// Tells the bytes of an error packet, if there is one.
 fn tell_error<S: Sink>(
     alloc: Global,
@@ -201,7 +156,6 @@ pub fn push_parts(datagram: &Datagram, text: &mut String) -> Result<(), NoMemory
         (string_bytes text.new ≡ string_bytes text.old ++ parts_text datagram.now) }
     ensures front { OnlyAdds (string_bytes text.old) (string_bytes text.new) }
 {
-    // The law that the fields' text is the report's; the call does nothing.
     texts_of_reports();
     tell_parts(datagram, text)
 }

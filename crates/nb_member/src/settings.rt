@@ -1,10 +1,9 @@
 //! What a member is set up with, and the error packets that it answers with.
 ghost use Rattle.std.specs.Prelude.{◌≡◌};
-ghost use Rattle.nb_datagram.specs.declared.error_codes.TheConstants.{DESTINATION_NAME_NOT_PRESENT};
-ghost use Rattle.nb_member.specs.Hearing.{error_about, bad_name, refusal};
+ghost use Rattle.nb_member.specs.Hearing.{error_about, refusal};
 
 use nb_datagram::limits::HEADER_LENGTH;
-use nb_datagram::{DatagramFault, ErrorPacket, Key, Kind, LentFragment, error_codes};
+use nb_datagram::{DatagramFault, ErrorPacket, Key, Kind, error_codes};
 
 /// What a member is set up with.
 #[derive(Clone, Copy, Debug, PartialEq, Eq)]
@@ -27,7 +26,7 @@ impl Settings {
     ///
     /// RFC 1002 sections 4.4.3 and 5.3; its address and port, the member's, and its flags, 02, are
     /// our choice.
-    fn error_about(&self, kind: Kind, id: u16, code: u8) -> Option<ErrorPacket>
+    pub(crate) fn error_about(&self, kind: Kind, id: u16, code: u8) -> Option<ErrorPacket>
         ensures { result ≡ error_about self.now kind id code }
     {
         match kind {
@@ -44,43 +43,17 @@ impl Settings {
         }
     }
 
-    /// The error packet about a fragment's datagram, which became whole and isn't heard.
-    pub(crate) fn unheard(&self, fragment: &LentFragment<'_>) -> Option<ErrorPacket>
-        ensures { result ≡ error_about self.now fragment.now.kind fragment.now.key.id
-            DESTINATION_NAME_NOT_PRESENT }
-    {
-        self.error_about(
-            fragment.kind(),
-            fragment.key().id,
-            error_codes::DESTINATION_NAME_NOT_PRESENT,
-        )
-    }
-
     /// The error packet about a payload that is refused with this fault, which is sent where a name
     /// of a direct unique datagram is bad.
     pub(crate) fn error_for(&self, payload: &[u8], fault: DatagramFault) -> Option<ErrorPacket>
         ensures { result ≡ refusal self.now payload.now fault }
     {
-        match fault {
-            DatagramFault::Truncated(_) => None,
-            DatagramFault::UnknownType => None,
-            DatagramFault::SourceName(_) => {
-                self.bad_name(payload, error_codes::INVALID_SOURCE_NAME_FORMAT)
-            }
-            DatagramFault::DestinationName(_) => {
-                self.bad_name(payload, error_codes::INVALID_DESTINATION_NAME_FORMAT)
-            }
-        }
-    }
-
-    /// The error packet of this code about a payload, if it begins as a direct unique datagram.
-    fn bad_name(&self, payload: &[u8], code: u8) -> Option<ErrorPacket>
-        ensures { result ≡ bad_name self.now payload.now code }
-    {
-        if payload.len() < HEADER_LENGTH {
-            return None;
-        }
-        if payload[0] != Kind::Unique.message_type() {
+        let code = match fault {
+            DatagramFault::Truncated(_) | DatagramFault::UnknownType => return None,
+            DatagramFault::SourceName(_) => error_codes::INVALID_SOURCE_NAME_FORMAT,
+            DatagramFault::DestinationName(_) => error_codes::INVALID_DESTINATION_NAME_FORMAT,
+        };
+        if payload.len() < HEADER_LENGTH || payload[0] != Kind::Unique.message_type() {
             return None;
         }
         let id = u16::from_be_bytes([payload[2], payload[3]]);

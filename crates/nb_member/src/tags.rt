@@ -1,4 +1,4 @@
-//! The keys of the fields of a report and of a listing, as specs/Keys has them (our choice).
+//! The keys of the fields of a report and of a listing, as specs/Tags has them (our choice).
 
 use nb_telling::FieldTag;
 
@@ -12,47 +12,35 @@ macro_rules! field_tag {
     };
 }
 
-/// What became of a line, with which its report begins after the line's number.
+// Of a report; a line's number stands before it.
 pub const OUTCOME: FieldTag = field_tag!("outcome", "");
 
-/// How many keys a look at the clock dropped.
 pub const COUNT: FieldTag = field_tag!("count", " ");
 
-/// Why a payload is refused.
 pub const REFUSED: FieldTag = field_tag!("refused", "refused ");
 
-/// The error packet that is answered.
 pub const ERROR: FieldTag = field_tag!("error", " error ");
 
-/// The key of a datagram.
+// Of both.
 pub const KEY: FieldTag = field_tag!("key", " ");
 
-/// To whom a datagram goes.
 pub const KIND: FieldTag = field_tag!("kind", " ");
 
-/// The sender's name.
 pub const SOURCE: FieldTag = field_tag!("source", " ");
 
-/// The name that a datagram is for.
 pub const DESTINATION: FieldTag = field_tag!("destination", " ");
 
-/// The bytes of a datagram.
 pub const DATA: FieldTag = field_tag!("data", " ");
 
-/// The key with which a line of a listing begins.
+// Of a listing, whose lines begin with the key.
 pub const LISTED: FieldTag = field_tag!("key", "");
 
-/// Whether a key is whole, partial or spoilt.
 pub const STATE: FieldTag = field_tag!("state", " ");
 
-/// How many bytes of a datagram are known.
 pub const HELD: FieldTag = field_tag!("held", " ");
 
-/// How many bytes it has.
 pub const END: FieldTag = field_tag!("end", "/");
 
-/// How many runs the known ones make up.
 pub const RUNS: FieldTag = field_tag!("runs", " ");
 
-/// Where more is promised past all that is known.
 pub const MORE: FieldTag = field_tag!("more", " more ");

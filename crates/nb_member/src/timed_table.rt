@@ -1,13 +1,14 @@
 //! A table whose keys have the moments at which they came.
-ghost use Rattle.std.specs.Prelude.{◌≡◌, false, IfOk, IfErr, OnOk, OnErr, not, filter, Some};
+ghost use Rattle.std.specs.Prelude.{◌≡◌, false, IfOk, IfErr, OnOk, OnErr, Some};
 ghost use Rattle.std.specs.FinMap as maps;
 ghost use Rattle.nb_datagram.specs.declared.key.Key.{Key};
 ghost use Rattle.nb_datagram.specs.Key.{key_cmp};
 ghost use Rattle.nb_table.specs.Change.{Tells};
 ghost use Rattle.nb_table.specs.Insert.{Takes as TableTakes, Refuses};
+ghost use Rattle.nb_table.specs.Limits.{with_contents};
 ghost use Rattle.nb_table.specs.Merging.{Fits, IsRefused, newly_handed};
 ghost use Rattle.nb_member.specs.Taking.{IsMerged, start_after};
-ghost use Rattle.nb_member.specs.Member.{begun, after_fragment, after_clock, lasts};
+ghost use Rattle.nb_member.specs.Member.{empty_timed, begun, after_fragment, after_clock, lasts};
 ghost use Rattle.nb_member.specs.Live.{is_over};
 ghost use Rattle.nb_member.specs.Code.Members.{begun_each, HaveOneSetOfKeys, StandOnce};
 
@@ -41,13 +42,8 @@ impl Model for TimedTable {
 impl TimedTable {
     /// An empty table with these limits. No memory is taken.
     pub fn new(alloc: Global, keys: u32, per_source: u32, longest: u16) -> TimedTable
-        ensures { result ≡ record {
-          table = record {
-            contents = maps.empty;
-            limits = record { keys = keys; per_source = per_source; longest = longest };
-          };
-          moments = maps.empty;
-        } }
+        ensures { result
+            ≡ empty_timed (record { keys = keys; per_source = per_source; longest = longest }) }
     {
         TimedTable {
             table: Table::new(alloc, keys, per_source, longest),
@@ -62,12 +58,7 @@ impl TimedTable {
         &self.table
     }
 
-    /// Takes in a fragment that came at this moment, and says what that changed at its key, as far
-    /// as datagrams are handed over.
-    ///
-    /// # Errors
-    ///
-    /// Those of the table, which is then as it was, and so are the moments.
+    /// Takes in a fragment that came at this moment, and says what that changed at its key.
     pub fn insert(
         &mut self,
         moment: u64,
@@ -97,12 +88,7 @@ impl TimedTable {
         self.starts.expire(&mut self.table, now);
     }
 
-    /// Merges the other table, and gives the datagrams of the keys that become whole by this. The
-    /// keys that are new came at this moment.
-    ///
-    /// # Errors
-    ///
-    /// Those of the table's merge. The table is then as it was, and so are the moments.
+    /// Merges the other table at this moment, and gives the datagrams that become whole by this.
     pub fn merge(&mut self, other: &Table, moment: u64) -> Result<Datagrams, TableFault>
         ensures fits { OnOk result
             (Fits self.old.table.limits self.old.table.contents other.now.contents) }
@@ -132,10 +118,8 @@ fn begin_or_drop(
     ensures begun { OnOk result (starts.new ≡ begun starts.old key moment) }
     ensures kept { OnOk result (table.new ≡ table.old) }
     ensures still { OnErr result (starts.new ≡ starts.old) }
-    ensures dropped { OnErr result (table.new ≡ record {
-      contents = maps.remove table.old.contents key;
-      limits = table.old.limits;
-    }) }
+    ensures dropped { OnErr result
+        (table.new ≡ with_contents table.old (maps.remove table.old.contents key)) }
 {
     match starts.begin_new(key, moment) {
         Ok(()) => Ok(()),
@@ -179,10 +163,6 @@ impl Starts {
     }
 
     /// Starts the timer of a key that has none.
-    ///
-    /// # Errors
-    ///
-    /// `NoMemory` where memory ran out. The moments are then as they were.
     pub fn begin_new(&mut self, key: Key, moment: u64) -> Result<(), NoMemory>
         requires { maps.contains_key self.old key ≡ false }
         ensures begun { OnOk result (self.new ≡ begun self.old key moment) }
@@ -192,12 +172,7 @@ impl Starts {
         Ok(())
     }
 
-    /// A copy, in which the timers of the other table's keys start at this moment, unless they run
-    /// already: those of the own table's keys do.
-    ///
-    /// # Errors
-    ///
-    /// `NoMemory` where memory ran out.
+    /// A copy, in which the other table's keys that the own one lacks start at this moment.
     pub fn with_keys(&self, own: &Table, other: &Table, moment: u64) -> Result<Starts, NoMemory>
         requires { HaveOneSetOfKeys own.now.contents self.now }
         ensures { IfOk result (λ starts. (k : Key) →
@@ -209,17 +184,14 @@ impl Starts {
         Ok(starts)
     }
 
-    /// Drops the keys whose timers have run out where the clock shows `now`, from the moments and
-    /// from the table. No memory is taken.
+    /// Drops the keys whose timers have run out at `now`, out of the table too.
     pub fn expire(&mut self, table: &mut Table, now: u64)
         ensures moments { self.new ≡ maps.retain_keys self.old (lasts self.old now) }
-        ensures left { table.new ≡ record {
-          contents = maps.retain_keys table.old.contents (lasts self.old now);
-          limits = table.old.limits;
-        } }
+        ensures left { table.new
+            ≡ with_contents table.old (maps.retain_keys table.old.contents (lasts self.old now)) }
     {
         drop_over(table, &self.moments, now);
-        keep_running(&mut self.moments, now);
+        self.moments.retain(|start| !is_over(now, start.1));
     }
 }
 
@@ -248,22 +220,12 @@ fn is_over(now: u64, start: u64) -> bool
 /// Takes the keys whose timers have run out, out of the table.
 fn drop_over(table: &mut Table, moments: &[(Key, u64)], now: u64)
     requires { StandOnce moments.now }
-    ensures { table.new ≡ record {
-      contents = maps.retain_keys table.old.contents
-          (lasts (maps.from_entries {R = key_cmp} moments.now) now);
-      limits = table.old.limits;
-    } }
+    ensures { table.new ≡ with_contents table.old (maps.retain_keys table.old.contents
+        (lasts (maps.from_entries {R = key_cmp} moments.now) now)) }
 {
     for start in moments {
         if is_over(now, start.1) {
             table.drop_key(&start.0);
         }
     }
-}
-
-/// Keeps the keys whose timers haven't run out.
-fn keep_running(moments: &mut Vec<(Key, u64)>, now: u64)
-    ensures { moments.new.items ≡ filter (λ e. not (is_over now (Some e.1))) moments.old.items }
-{
-    moments.retain(|start| !is_over(now, start.1));
 }

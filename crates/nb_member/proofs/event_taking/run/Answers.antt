@@ -6,8 +6,7 @@ use Rattle.nb_member.proofs.event_taking.run.Goals.{then-was_refused, else-was_r
 pub loop-index-init : goal.loop-index-init
 loop-index-init c =
     none_so_far c.args.member.now c.args.events.now
-    (record { deliveries = c.new-log.result.deliveries.items; errors = c.new-log.result.errors.items })
-    c.new-log.ensures.deliveries c.new-log.ensures.errors
+    (record { deliveries = c.new.result.items; errors = c.new-2.result.items }) c.new.ensures.items c.new-2.ensures.items
 
 pub returns-in-Err : goal.returns-in-Err
 returns-in-Err c =

@@ -6,9 +6,9 @@ use Rattle.nb_member.proofs.line_reports.tell_line.Goals as goal
 
 pub returns-then-port-ne138-clause-told : goal.returns-then-port-ne138-clause-told
 returns-then-port-ne138-clause-told g c =
-    on_ok_weaker c.tell_passed.result
+    on_ok_weaker c.text.result
     (λ told. record { fields = passed_fields; are = did_pass c.in-Packet.is c.if-port-ne138.true; told = told })
-    c.tell_passed.ensures.told
+    c.text.ensures.told
 
 pub returns-in-Tick-clause-told : goal.returns-in-Tick-clause-told
 returns-in-Tick-clause-told g c =

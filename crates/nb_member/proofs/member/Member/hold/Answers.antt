@@ -1,22 +1,35 @@
-use Rattle.nb_member.proofs.Common.{Ok, Err, refl, subst, IfErr-weaker, on_ok_weaker, IsPacket, Other, MemberFault, TakesFragment}
+use Rattle.nb_member.proofs.Common.{Ok, Err, ap, refl, subst, err_from_is_err_and, IsPacket, Other, MemberValue, with_timed, outcome_of}
 use Rattle.nb_datagram.specs.Packet.{Packet}
 use Rattle.nb_member.proofs.member.Member.hold.Goals as goal
-use Rattle.nb_member.specs.Taking.{Takes, fragment, error, query, no_packet}
+use Rattle.nb_member.specs.Taking.{fragment, error, query, no_packet}
 
-pub returns-in-Ok-Direct-default-clause-taken : goal.returns-in-Ok-Direct-default-clause-taken
-returns-in-Ok-Direct-default-clause-taken c =
+pub returns-in_ok-insert-in-Ok-Direct-default-clause-taken : goal.returns-in_ok-insert-in-Ok-Direct-default-clause-taken
+returns-in_ok-insert-in-Ok-Direct-default-clause-taken c =
     let d = c.in-Ok-Direct-default in
     let found = subst (λ (p : Packet). IsPacket c.args.payload.now p d.field-0-1) d.field-0-0-is d.ensures.found in
-    on_ok_weaker c.hold_fragment.result (λ taken. (taken.0, fragment d.fragment d.field-0-1 (Ok taken.0) found taken.1)) c.hold_fragment.ensures.taken
+    let m : MemberValue = record { settings = c.self.inside.settings; names = c.self.inside.names; timed = c.self.inside.timed } in
+    let e = c.in_ok-insert-in-Ok-Direct-default in
+    let told = e.ensures.change in
+    let outcome = outcome_of m.settings m.names d.fragment.key told.0 in
+    rw (← c.self.view_is) (
+      outcome,
+      fragment d.fragment d.field-0-1 (Ok outcome) found (record {
+        takes = e.ensures.taken;
+        joined = ap (with_timed m) e.ensures.joined;
+        change = told.0;
+        changed = told.1;
+        answered = refl;
+      }),
+    )
 
-pub returns-in-Ok-Direct-default-clause-refused : goal.returns-in-Ok-Direct-default-clause-refused
-returns-in-Ok-Direct-default-clause-refused c =
+pub returns-in_err-insert-in-Ok-Direct-default-clause-refused : goal.returns-in_err-insert-in-Ok-Direct-default-clause-refused
+returns-in_err-insert-in-Ok-Direct-default-clause-refused c =
     let d = c.in-Ok-Direct-default in
     let found = subst (λ (p : Packet). IsPacket c.args.payload.now p d.field-0-1) d.field-0-0-is d.ensures.found in
-    IfErr-weaker c.hold_fragment.result
-    (λ (fault : MemberFault). TakesFragment c.args.self.now c.args.moment d.fragment c.hold_fragment.new.self (Err fault))
-    (λ fault. Takes c.args.self.now c.args.moment c.args.payload.now c.hold_fragment.new.self (Err fault))
-    (λ fault refused. fragment d.fragment d.field-0-1 (Err fault) found refused) c.hold_fragment.ensures.refused
+    let m : MemberValue = record { settings = c.self.inside.settings; names = c.self.inside.names; timed = c.self.inside.timed } in
+    let p = err_from_is_err_and c.from_residual.result c.from_residual.ensures.1 in
+    let e = c.in_err-insert-in-Ok-Direct-default in
+    rw p.1 (fragment d.fragment d.field-0-1 (Err p.0) found (rw (p.2, ← c.self.view_is) (e.ensures.refused, ap (with_timed m) e.ensures.kept)))
 
 pub returns-in-Ok-Error-default-clause-taken : goal.returns-in-Ok-Error-default-clause-taken
 returns-in-Ok-Error-default-clause-taken c =

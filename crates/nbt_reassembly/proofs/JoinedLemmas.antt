@@ -1,12 +1,8 @@
 -- What `nbt merge` and `nbt agree` have done once the tables of the whole input are read.
-use Rattle.nbt_reassembly.proofs.Common.{◌≡◌, ◌≢◌, ◌≤◌, ◌<◌, ◌+◌, ◌++◌, [], ◌∷◌, ℕ, List, length, take, drop, get_or, slice_get, slice_index_or, Option, Some, refl, sym, ap, ◌∙◌, ap₂, subst, suc, arith, Result, Ok, Err, Appends, Consumes, IsAtEnd, AllZip, AppendsFront, HasLines, TableValue, Capacity, Fault, Memory, NoTables, TwoTablesWanted, Write, Contents, join, joined_all, AreTaken, PrintsText, most_keys, AreTables, contents_of, fault_of_join, FailsOn, IsElsewhere, IsTableLine, JoinFails, MergeFails, input_fails, MergesTables, PrintsJoin, CompareFails, ComparesTables, TablesFail, no_line, not_joined, not_two, one_fails}
-use Rattle.std.proofs.Common.{◌⊎◌, inl, inr}
+use Rattle.nbt_reassembly.proofs.Common.{◌⊎◌, inl, inr, ArgMatches, Read, Streams, ◌≡◌, ◌≢◌, ◌≤◌, ◌<◌, ◌+◌, ◌++◌, [], ◌∷◌, ℕ, List, length, take, drop, get_or, slice_get, slice_index_or, Option, Some, refl, sym, ap, ◌∙◌, ap₂, subst, suc, arith, Result, Ok, Err, Appends, Consumes, IsAtEnd, AllZip, AppendsFront, HasLines, TableValue, Capacity, Fault, Memory, NoTables, TwoTablesWanted, Write, Contents, join, joined_all, AreTaken, PrintsText, most_keys, AreTables, contents_of, fault_of_join, FailsOn, IsElsewhere, IsTableLine, JoinFails, MergeFails, input_fails, MergesTables, PrintsJoin, CompareFails, ComparesTables, TablesFail, no_line, not_joined, not_two, one_fails}
 use Rattle.std.specs.Io.KnownBytes.{Keeps}
-use Rattle.clap.specs.declared.parser.matches.ArgMatches.{ArgMatches}
 use Rattle.nb_streams.specs.declared.limits.TheConstants.{MAX_INPUT}
-use Rattle.nbt_command.specs.declared.fault.Fault.TheVariants.{Read}
 use Rattle.nbt_command.specs.Input.{WasCut}
-use Rattle.nbt_command.specs.Streams.{Streams}
 use Rattle.nbt_reassembly.specs.Commands.{AgreeCommand}
 use Rattle.nb_table.specs.Merging.{Fits, IsRefused}
 use Rattle.nb_table.specs.declared.fault.TableFault.{TableFault}
@@ -167,8 +163,7 @@ compare_of_line old_in new_in text count_text read_text n fault counted same rea
     let has = subst (λ (bytes : List ℕ). HasLines bytes lines.0) counted lines.1 in
     (text, read, ended, within, one_fails lines.0 has (sym lines.2 ∙ two) (subst (λ (bytes : List ℕ). TablesFail most_keys bytes fault) same (fails (not_memory fault here))))
 
--- ---- why nothing is told of two tables
-
+-- nothing is told of two tables
 pub untold : (matches : ArgMatches) (s : Streams) (fault : Fault) → fault ≢ Write → (fault ≡ Read → WasCut MAX_INPUT s.old_in s.new_in s.reads s.reads_after)
     → Keeps s.old_out s.new_out → FailsOn CompareFails s.old_in s.new_in fault → AgreeCommand matches s (Err fault)
 untold matches s fault no_write cut kept fails = record {
@@ -181,11 +176,6 @@ untold matches s fault no_write cut kept fails = record {
   why = λ write. absurd (no_write write);
 }
 
--- the fault of a device or of memory is none of the input
-pub told_elsewhere : (old_in new_in : Option (List ℕ)) (fault : Fault) → (fault ≡ Memory) ⊎ (fault ≡ Write) → FailsOn CompareFails old_in new_in fault
-told_elsewhere old_in new_in fault (inl is) = elsewhere CompareFails old_in new_in fault (rw is tt)
-told_elsewhere old_in new_in fault (inr is) = elsewhere CompareFails old_in new_in fault (rw is tt)
-
-pub told_uncut : (X : Type 0) (fault : Fault) → (fault ≡ Memory) ⊎ (fault ≡ Write) → fault ≡ Read → X
-told_uncut X fault (inl is) read = absurd (cc (is, read))
-told_uncut X fault (inr is) read = absurd (cc (is, read))
+pub is_elsewhere : (fault : Fault) → (fault ≡ Memory) ⊎ (fault ≡ Write) → IsElsewhere fault × (fault ≢ Read)
+is_elsewhere fault (inl is) = rw is (tt, λ read. absurd (cc read))
+is_elsewhere fault (inr is) = rw is (tt, λ read. absurd (cc read))

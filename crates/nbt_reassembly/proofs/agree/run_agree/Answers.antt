@@ -1,6 +1,6 @@
 use Rattle.nbt_reassembly.proofs.Common.{sym, ap, ◌∙◌, length, arith, IfErr-weaker, IfOk-weaker, err_from_is_err_and, most_keys, Keeps-same}
 use Rattle.nbt_reassembly.specs.Tables.{CompareFails}
-use Rattle.nbt_reassembly.proofs.JoinedLemmas.{as_many, compare_of_count, compare_of_line, compares_tables, elsewhere, told_elsewhere, told_uncut, two_items, untold}
+use Rattle.nbt_reassembly.proofs.JoinedLemmas.{as_many, compare_of_count, compare_of_line, compares_tables, elsewhere, is_elsewhere, two_items, untold}
 use Rattle.nbt_reassembly.proofs.agree.run_agree.Goals as goal
 use Rattle.nbt_reassembly.proofs.agree.run_agree.Goals.{in_default, in_default-2}
 
@@ -40,8 +40,8 @@ returns-in-len2 g c =
       write = λ list given. rw (sym (c.is_given-list.ensures list given)) (IfErr-weaker c.tell_same.result _ _
           (λ fault told write. compares_tables _ _ _ _ _ _ _ _ c.as_slice-2.ensures.value text.read text.ended text.within c.in_ok-tables.ensures.found (sym tables ∙ items) (told write))
           c.tell_same.ensures.write);
-      fault = IfErr-weaker c.tell_same.result _ _ (λ fault is. told_elsewhere _ _ fault is) c.tell_same.ensures.fault;
-      cut = IfErr-weaker c.tell_same.result _ _ (λ fault is. told_uncut _ fault is) c.tell_same.ensures.fault;
+      fault = IfErr-weaker c.tell_same.result _ _ (λ fault is. elsewhere CompareFails _ _ fault (is_elsewhere fault is).0) c.tell_same.ensures.fault;
+      cut = IfErr-weaker c.tell_same.result _ _ (λ fault is read. absurd ((is_elsewhere fault is).1 read)) c.tell_same.ensures.fault;
       why = c.tell_same.ensures.why;
     }
 

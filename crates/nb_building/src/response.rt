@@ -24,7 +24,8 @@ use std::alloc::Global;
 /// class IN (RFC 1002 section 4.2.1.3). `broadcast` sets B in WORD.
 pub fn build(alloc: Global, words: &[&str], broadcast: bool) -> Result<Bytes, BuildFault>
     ensures built { IfOk result (IsServiceBuilt broadcast (codes "response") (texts words.now)) }
-    ensures refused { IfErr result (ExplainsService broadcast (codes "response") (texts words.now)) }
+    ensures refused { IfErr result
+        (ExplainsService broadcast (codes "response") (texts words.now)) }
 {
     let [id, flags, name, kind, ttl, digits] = words else {
         return Err(BuildFault::Count);

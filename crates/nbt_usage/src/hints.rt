@@ -30,8 +30,8 @@ pub const UNHELPED: &str =
      `show` refuses, and `man nbt` lists all refusals\n";
 
 /// Tells a person what a fault means and what to do then, as a line; of the words of a packet,
-/// where they are matched, which is wrong and what was wanted. Where there is no memory for it, or the
-/// device fails, nothing else changes.
+/// where they are matched, which is wrong and what was wanted. Where there is no memory for it, or
+/// the device fails, nothing else changes.
 pub fn print_hint<E: Write>(
     alloc: Global,
     fault: Fault,

@@ -1,5 +1,6 @@
 -- What the texts of arguments stand for, and words one by one.
-use Rattle.nb_building.proofs.Common.{◌≡◌, ℕ, zero, suc, ◌+◌, ◌≤◌, ◌<◌, ◌^◌, true, List, [], ◌∷◌, length, get_or, map, refl, sym, ap, ◌∙◌, arith, Result, Ok, Err, list_all, and_parts, NumberText, decimal, AllDigits, ParsesUnsigned, digits_value, decimal_injective, decimal-digits_value, decimal_digit, digits_decimal, first_decimal, parse-decimal, IsNumeralModel, digit_from_value, parse_digits, numerals_by_value, tells_digits}
+use Rattle.nb_building.proofs.Common.{BuildFault, MatchResult, NamesNone, Word, ◌≡◌, ℕ, zero, suc, ◌+◌, ◌≤◌, ◌<◌, ◌^◌, true, List, [], ◌∷◌, length, get_or, map, refl, sym, ap, ◌∙◌, arith, Result, Ok, Err, list_all, and_parts, NumberText, decimal, AllDigits, ParsesUnsigned, digits_value, decimal_injective, decimal-digits_value, decimal_digit, digits_decimal, first_decimal, parse-decimal, IsNumeralModel, digit_from_value, parse_digits, numerals_by_value, tells_digits}
+use Rattle.std.specs.Result.{OkIff, result_or}
 use Rattle.std.specs.Char.{is_ascii_digit, digit_value}
 use Rattle.std.proofs.lemmas.Bool.Decides.{nat_tests}
 
@@ -56,11 +57,24 @@ no_number_from_parse text r e is parsed n h =
     let read = parse-decimal 32 n text r (omega (arith, h.0)) (omega (arith, h.0)) h.1 parsed in absurd (cc (is, read))
 
 -- a number that is too great is no less
-pub none_so_small : (text : List ℕ) (most n : ℕ) → most ≤ 4294967295 → NumberText 4294967295 n text → ¬ (n < most + 1)
+none_so_small : (text : List ℕ) (most n : ℕ) → most ≤ 4294967295 → NumberText 4294967295 n text → ¬ (n < most + 1)
     → (m : ℕ) → ¬ NumberText most m text
 none_so_small text most n low is far m h =
     let same = decimal_injective m n (omega (arith, low, h.0)) (omega (arith, is.0)) (sym h.1 ∙ is.1) in
     far (omega (arith, same, h.0))
+
+-- a refusal that is told as another
+pub told_as : {T E : Type 0} (P : T → Type 0) (Q : BuildFault → Type 0) (told : BuildFault) (r : Result T E) (s : Result T BuildFault)
+    → s ≡ result_or r (Err told) → ((x : T) → r ≡ Ok x → P x) → ((e : E) → r ≡ Err e → Q told) → MatchResult s P Q
+told_as P Q told (Ok x) s is ok err = rw is (ok x refl)
+told_as P Q told (Err e) s is ok err = rw is (err e refl)
+
+-- a number of fewer bits, if it is one
+pub narrowed : {E : Type 0} (most n place : ℕ) (text : List ℕ) (r : Result ℕ E) (s : Result ℕ BuildFault) → most ≤ 4294967295
+    → NumberText 4294967295 n text → OkIff r (n < most + 1) n → s ≡ result_or r (Err (Word place))
+    → MatchResult s (λ number. NumberText most number text) (NamesNone place (λ number. NumberText most number text))
+narrowed most n place text (Ok m) s low is fits or = rw (or, fits.1) (omega (arith, fits.0), is.1)
+narrowed most n place text (Err e) s low is far or = rw or (refl, none_so_small text most n low is far)
 
 -- ---- words, one by one
 

@@ -1,6 +1,5 @@
 -- Packets that words name, from what the calls that make them answer.
-use Rattle.nb_building.proofs.Common.{◌≡◌, ◌≢◌, inl, inr, ℕ, Bool, List, [], ◌∷◌, map, ap, ap₂, ◌∙◌, refl, Result, Ok, Err, ◌<◌, ◌+◌, ◌++◌, length, get_or, take, sym, append_assoc, IfOk, codes, DataText, NetbiosName, labels_of_name, IsText, ResourceData, ResourceRecord, record_of, ServicePacket, IsServiceBuilt, IsSessionBuilt, NamesDatagrams, NamesService, NamesSession, NumberText, WordText, response, HasRdata, response_packet, with_flag, of_service, of_session, GiveTooMuch, append-nil, take_more, BuildFault, TooLong, IsUnanswered, NS, IN, IsPacket, AreLinesOf, payload_line, payload_lines}
-use Rattle.std.specs.Prelude.{IfErr}
+use Rattle.nb_building.proofs.Common.{◌≡◌, ℕ, Bool, List, [], ◌∷◌, map, ap, ap₂, ◌∙◌, refl, Result, Ok, Err, ◌<◌, ◌+◌, ◌++◌, length, get_or, take, sym, append_assoc, IfOk, codes, DataText, NetbiosName, labels_of_name, IsText, ResourceData, ResourceRecord, record_of, ServicePacket, IsServiceBuilt, IsSessionBuilt, NamesDatagrams, NamesService, NamesSession, NumberText, WordText, response, HasRdata, response_packet, with_flag, of_service, of_session, GiveTooMuch, append-nil, take_more, IN, IsPacket, AreLinesOf, payload_line, payload_lines}
 use Rattle.nb_service.specs.Requests.{packet_of}
 use Rattle.nb_service.specs.Encoding as service
 use Rattle.nb_session.specs.Packet as session
@@ -68,19 +67,15 @@ too_much what word words texts is_what are much = rw (is_what, are) much
 
 -- ---- what printing the lines of payloads keeps from turn to turn
 
--- one line is the lines of one payload
-one_line : (port : ℕ) (payload bytes : List ℕ) → bytes ≡ payload_line port payload → bytes ≡ payload_lines port (payload ∷ [])
-one_line port payload bytes is = is ∙ sym (append-nil (payload_line port payload))
-
 pub service_lines : (broadcast : Bool) (what : List ℕ) (words : List (List ℕ)) (payload bytes : List ℕ)
-    → IsServiceBuilt broadcast what words payload → bytes ≡ payload_line 137 payload → AreLinesOf broadcast what words bytes
+    → IsServiceBuilt broadcast what words payload → bytes ≡ payload_lines 137 (payload ∷ []) → AreLinesOf broadcast what words bytes
 service_lines broadcast what words payload bytes built is =
-    record { port = 137; payloads = payload ∷ []; named = of_service payload built; lines = one_line 137 payload bytes is }
+    record { port = 137; payloads = payload ∷ []; named = of_service payload built; lines = is }
 
 pub session_lines : (broadcast : Bool) (what : List ℕ) (words : List (List ℕ)) (payload bytes : List ℕ)
-    → IsSessionBuilt what words payload → bytes ≡ payload_line 139 payload → AreLinesOf broadcast what words bytes
+    → IsSessionBuilt what words payload → bytes ≡ payload_lines 139 (payload ∷ []) → AreLinesOf broadcast what words bytes
 session_lines broadcast what words payload bytes built is =
-    record { port = 139; payloads = payload ∷ []; named = of_session payload built; lines = one_line 139 payload bytes is }
+    record { port = 139; payloads = payload ∷ []; named = of_session payload built; lines = is }
 
 lines-append : (port : ℕ) (xs ys : List (List ℕ)) → payload_lines port (xs ++ ys) ≡ payload_lines port xs ++ payload_lines port ys
 lines-append port [] ys = refl

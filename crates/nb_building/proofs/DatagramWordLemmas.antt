@@ -1,7 +1,6 @@
 -- Words that name no packets of port 138.
-use Rattle.nb_building.proofs.Common.{◌≡◌, ◌≢◌, ◌⊎◌, inl, inr, ◌<◌, ◌≤◌, ℕ, ◌+◌, ◌*◌, List, [], ◌∷◌, length, map, get_or, refl, sym, ap, ◌∙◌, subst, arith, Result, Ok, Err, codes, ◌==◌, if◌then◌else◌, slice_range, IfErr, range_with_len, length-map, get_or-map, DataText, NetbiosName, IsText, Unnamed, CodeText, KeyText, NamesDatagrams, NumberText, error, fragments, queries, Key, Kind, Unique, Group, Broadcast, QueryKind, kind_text, query_word, AreTooLong, piece_count, decimal_injective, BuildFault, Memory, TooLong, ZeroPiece, Explains, GiveTooMuch, no_memory, too_long, zero_piece}
+use Rattle.nb_building.proofs.Common.{◌≡◌, ◌⊎◌, inl, inr, ◌<◌, ◌≤◌, ℕ, ◌+◌, ◌*◌, List, [], ◌∷◌, length, get_or, sym, ap, ◌∙◌, subst, arith, Result, Ok, Err, slice_range, IfErr, range_with_len, length-map, get_or-map, DataText, NetbiosName, IsText, KeyText, NamesDatagrams, NumberText, fragments, AreTooLong, piece_count, decimal_injective, BuildFault, Memory, TooLong, ZeroPiece, Explains, GiveTooMuch, no_memory, too_long, zero_piece}
 use Rattle.nb_datagram.specs.declared.limits.TheConstants.{MAX_LENGTH}
-use Rattle.nb_datagram.specs.declared.packet.QueryKind.TheVariants.{Request, Positive, Negative}
 use Rattle.nb_datagram.specs.Fragment.{DatagramParts, FragmentParts, named_length}
 use Rattle.nb_datagram.specs.Pieces.{piece}
 use Rattle.nb_building.proofs.UnnamedLemmas.{one_data}

@@ -1,5 +1,6 @@
 -- Texts that a mark divides: the parts of an address, and of a key.
 use Rattle.nb_building.proofs.Common.{◌≡◌, ◌≢◌, ℕ, zero, suc, ◌<◌, ◌^◌, Bool, eqb, List, [], ◌∷◌, ◌++◌, length, get_or, Bor, Option, Some, None, Result, Ok, Err, refl, sym, ap, ap₂, ◌∙◌, subst, arith, length-append, AllByRecursion, before_first, after_first, position_or_len, IsInRange, eqb-true, eq-eqb, false≢true, get_or-take, length-take, IsErrAnd, MatchResult, AddressText, NumberText, NamesNone, SplitsAt, decimal, AllDigits, digit_from_value, BuildFault, Word}
+use Rattle.std.specs.Prelude.{ok_or}
 use Rattle.std.specs.Str.Pattern.{FindsChar, SplitsAtFirstByte}
 use Rattle.std.proofs.lemmas.List.Sums.{fails_before_first, passes_at_first, split_at_first}
 use Rattle.std.proofs.Math.Seq.{get_or-append_seam}
@@ -45,15 +46,21 @@ no_split mark text none front behind is =
     let at : get_or text (length front) 0 ≡ mark = rw is (get_or-append_seam front mark behind 0) in
     absurd (false≢true (sym (fails_before_first test text (length front) 0 lt) ∙ eq-eqb _ mark at))
 
-pub split_from_call : (mark : ℕ) (text : List ℕ) (r : Option (Bor (List ℕ) × Bor (List ℕ))) (x : Bor (List ℕ) × Bor (List ℕ)) → mark < 128
+split_from_call : (mark : ℕ) (text : List ℕ) (r : Option (Bor (List ℕ) × Bor (List ℕ))) (x : Bor (List ℕ) × Bor (List ℕ)) → mark < 128
     → r ≡ Some x → SplitsAtFirstByte (FindsChar mark) (Some mark) text r → SplitsAt mark text x.0.now x.1.now
 split_from_call mark text r x low is split =
     let parts = (rw is at split) low (λ w o h. h) in
     rw (parts.0, parts.1) (splits_at_first mark text parts.2)
 
-pub no_split_from_call : (mark : ℕ) (text : List ℕ) (r : Option (Bor (List ℕ) × Bor (List ℕ))) → mark < 128
+no_split_from_call : (mark : ℕ) (text : List ℕ) (r : Option (Bor (List ℕ) × Bor (List ℕ))) → mark < 128
     → r ≡ None → SplitsAtFirstByte (FindsChar mark) (Some mark) text r → (front behind : List ℕ) → text ≢ front ++ mark ∷ behind
 no_split_from_call mark text r low is split = no_split mark text ((rw is at split) low (λ w o h. h))
+
+pub parts_from_call : (mark place : ℕ) (text : List ℕ) (r : Option (Bor (List ℕ) × Bor (List ℕ))) (s : Result (Bor (List ℕ) × Bor (List ℕ)) BuildFault)
+    → mark < 128 → s ≡ ok_or r (Word place) → SplitsAtFirstByte (FindsChar mark) (Some mark) text r
+    → MatchResult s (λ parts. SplitsAt mark text parts.0.now parts.1.now) (NamesNone place (λ (parts : List ℕ × List ℕ). text ≡ parts.0 ++ mark ∷ parts.1))
+parts_from_call mark place text None s low is split = rw is (refl, λ parts. no_split_from_call mark text None low refl split parts.0 parts.1)
+parts_from_call mark place text (Some x) s low is split = rw is (split_from_call mark text (Some x) x low refl split)
 
 -- ---- one division
 

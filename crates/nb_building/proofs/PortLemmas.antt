@@ -1,5 +1,5 @@
 -- Which port the packets that words name are of, by the first word.
-use Rattle.nb_building.proofs.Common.{◌≡◌, inl, inr, ap, Bool, ℕ, List, get_or, Result, Ok, Err, refl, sym, ◌∙◌, arith, codes, ◌==◌, if◌then◌else◌, IfErr, ServicePacket, IsServiceBuilt, IsSessionBuilt, Names, NamesDatagrams, NamesService, NamesSession, query, status, registration, refresh, release, response, request, message, positive, negative, retarget, keepalive, fragments, error, queries, of_service, of_session, of_datagrams, Kind, Unique, QueryKind, kind_text, query_word, BuildFault, Explains, IsDatagramWord, IsServiceWord, IsSessionWord}
+use Rattle.nb_building.proofs.Common.{◌≡◌, inl, inr, ap, Bool, ℕ, List, get_or, Result, refl, sym, ◌∙◌, arith, ◌==◌, if◌then◌else◌, IfErr, ServicePacket, IsServiceBuilt, IsSessionBuilt, Names, NamesDatagrams, NamesService, NamesSession, query, request, fragments, error, queries, of_service, of_session, of_datagrams, Kind, Unique, QueryKind, kind_text, query_word, BuildFault, Explains, IsDatagramWord, IsServiceWord, IsSessionWord}
 use Rattle.nb_session.specs.Packet as session
 use Rattle.nb_datagram.specs.declared.packet.QueryKind.TheVariants as query_kind
 use Rattle.nb_building.proofs.TakenLemmas.{explained_wider}

@@ -1,5 +1,5 @@
 -- Why the words of a response name none, where its answer couldn't be made.
-use Rattle.nb_building.proofs.Common.{◌≡◌, ◌≢◌, ◌⊎◌, inl, inr, ◌<◌, Bool, ℕ, List, [], ◌∷◌, get_or, length, Result, Ok, Err, refl, sym, ap, ◌∙◌, subst, arith, codes, IfErr, DataText, IsErrAnd, NamesNone, NetbiosName, IsText, ServicePacket, ResourceData, ResourceRecord, IsServiceBuilt, NamesService, NumberText, WordText, response, HasRdata, plain, domain, Refused, NameAt, NS, Explains, IsUnanswered, no_memory, rdata as much_rdata, too_long, BuildFault, Memory, TooLong, Word}
+use Rattle.nb_building.proofs.Common.{◌≡◌, ◌≢◌, ◌⊎◌, inl, inr, ◌<◌, Bool, ℕ, List, [], ◌∷◌, get_or, length, Result, Ok, Err, refl, ap, ◌∙◌, subst, arith, codes, IfErr, DataText, IsErrAnd, NamesNone, NetbiosName, IsText, ServicePacket, ResourceData, ResourceRecord, IsServiceBuilt, NamesService, NumberText, WordText, response, HasRdata, plain, domain, Refused, NameAt, NS, Explains, IsUnanswered, no_memory, rdata as much_rdata, too_long, BuildFault, Memory}
 use Rattle.nb_building.proofs.TakenLemmas.{explained_word, one_word_text}
 use Rattle.nb_building.proofs.UnnamedLemmas.{one_data}
 

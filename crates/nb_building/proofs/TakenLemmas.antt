@@ -1,5 +1,5 @@
 -- The words that name a packet are all taken by it, so that words of which one isn't name none.
-use Rattle.nb_building.proofs.Common.{◌≡◌, ◌≢◌, ◌⊎◌, inl, inr, ℕ, zero, suc, Bool, List, [], ◌∷◌, length, map, get_or, Option, Some, None, Result, Ok, Err, refl, sym, ap, ◌∙◌, subst, codes, w16, from_be_bytes, to_be_bytes, IfErr, IsErrAnd, length-map, AllByRecursion, ◌==◌, ServicePacket, ResourceData, DataText, NetbiosName, IsText, HasRdata, IsServiceBuilt, IsSessionBuilt, Names, NamesDatagrams, NamesService, NamesSession, WordText, IsRefused, Unnamed, query, status, registration, refresh, release, response, request, message, positive, negative, retarget, keepalive, fragments, error, queries, of_service, of_session, of_datagrams, plain, domain, true, Refused, NameAt, NS, Kind, Unique, Group, Broadcast, QueryKind, kind_text, query_word, Explains, GiveTooMuch, IsTextRefused, miscounted, no_memory, no_packet, too_long, wrong_text, wrong_word, zero_piece, AreTaken, IsFirstWrong, kinds_in, kinds_of, BuildFault, What, Count, Word, Text, TooLong, ZeroPiece, Memory}
+use Rattle.nb_building.proofs.Common.{◌≡◌, ◌≢◌, ◌⊎◌, inl, inr, ℕ, zero, suc, Bool, List, [], ◌∷◌, length, map, get_or, Option, Some, None, Result, Ok, Err, refl, sym, ap, ◌∙◌, subst, codes, w16, from_be_bytes, to_be_bytes, IfErr, IsErrAnd, length-map, AllByRecursion, ◌==◌, ServicePacket, ResourceData, NetbiosName, IsText, HasRdata, Names, NamesDatagrams, NamesService, NamesSession, WordText, IsRefused, Unnamed, query, status, registration, refresh, release, response, request, message, positive, negative, retarget, keepalive, fragments, error, queries, of_service, of_session, of_datagrams, plain, domain, true, Refused, NameAt, NS, Kind, Unique, Group, Broadcast, QueryKind, kind_text, query_word, Explains, GiveTooMuch, IsTextRefused, miscounted, no_memory, no_packet, too_long, wrong_text, wrong_word, zero_piece, AreTaken, IsFirstWrong, kinds_in, kinds_of, BuildFault, Count, Word, TooLong, Memory}
 use Rattle.std.proofs.lemmas.Nat.{from_be_bytes-to_be_bytes_2}
 use Rattle.std.proofs.Common.{false}
 use Rattle.std.specs.Cmp.Lexicographic.{bytes_decides, pointwise}

@@ -1,5 +1,5 @@
 -- Words that name nothing, from their parts.
-use Rattle.nb_building.proofs.Common.{Some, ◌≡◌, ◌≢◌, ◌<◌, ◌⊎◌, inl, inr, ℕ, List, [], ◌∷◌, length, map, get_or, Result, Ok, Err, refl, sym, ap, ◌∙◌, subst, arith, codes, ◌==◌, if◌then◌else◌, IsErrAnd, length-map, DataText, HexText, no_byte, one_more, empty, digits, NetbiosName, IsText, byte_of, AddressText, IsSessionBuilt, NamesSession, NumberText, message, negative, request, retarget, IsRefused, Unnamed, length-HexText, IsPacket, BuildFault, Count, Memory, Explains, miscounted, no_memory, kinds_of}
+use Rattle.nb_building.proofs.Common.{Some, ◌≡◌, ◌<◌, ◌⊎◌, inl, inr, ℕ, List, [], ◌∷◌, length, map, get_or, Result, Ok, Err, refl, sym, ap, ◌∙◌, subst, arith, codes, length-map, DataText, HexText, no_byte, one_more, empty, digits, byte_of, IsSessionBuilt, NamesSession, message, negative, length-HexText, IsPacket, BuildFault, Count, Memory, Explains, miscounted, no_memory, kinds_of}
 use Rattle.std.specs.Prelude.{IfErr}
 use Rattle.nb_session.specs.Packet as session
 

@@ -2,6 +2,7 @@
 --
 -- A number is written in decimal without leading zeros; the digits of an identifier, of flags, a type, a code and of data
 -- may be in either case. FLAGS of the packets of port 138 that are no fragments are F alone, 02.
+use Rattle.std.specs.Borrow.{Bor}
 use Rattle.std.specs.Prelude.{◌≡◌, ◌<◌, ◌≤◌, ◌^◌, ◌++◌, ℕ, Bool, List, [], ◌∷◌, length, codes, map, ◌≢◌, true, false, bit_or}
 use Rattle.std.specs.Fmt.{decimal}
 use Rattle.std.specs.Int.{w16, to_be_bytes}
@@ -56,6 +57,10 @@ response_packet id word name kind ttl rdata =
     packet_of id word [] (record_of (labels_of_name name) kind IN ttl rdata ∷ []) [] []
 
 -- ---- one word
+
+-- the texts of words
+abbrev pub texts : List (Bor (List ℕ)) → List (List ℕ)
+texts words = map (λ w. w.now) words
 
 -- NumberText most n text: the text is this number, which is at most so great
 abbrev pub NumberText : ℕ → ℕ → List ℕ → Type 0
@@ -157,3 +162,7 @@ pub data Names (broadcast : Bool) (what : List ℕ) (words : List (List ℕ)) : 
   of_service : (bytes : List ℕ) → IsServiceBuilt broadcast what words bytes → Names broadcast what words 137 (bytes ∷ [])
   of_session : (bytes : List ℕ) → IsSessionBuilt what words bytes → Names broadcast what words 139 (bytes ∷ [])
   of_datagrams : (payloads : List (List ℕ)) → NamesDatagrams what words payloads → Names broadcast what words 138 payloads
+
+-- the same of the port and these bytes
+abbrev pub NamesAny : Bool → List ℕ → List (List ℕ) → ℕ × List (List ℕ) → Type 0
+NamesAny broadcast what words packets = Names broadcast what words packets.0 packets.1

@@ -1,5 +1,5 @@
 -- Why words are refused (our choice). The place of a word is how many stand before it.
-use Rattle.std.specs.Prelude.{◌≡◌, ◌≢◌, ◌⊎◌, ◌++◌, ℕ, List, ◌∷◌, ◌<◌, ◌≤◌, [], length, codes, get_or, None, Some}
+use Rattle.std.specs.Prelude.{◌≡◌, ◌≢◌, ◌⊎◌, ◌++◌, ℕ, Bool, List, ◌∷◌, ◌<◌, ◌≤◌, [], length, codes, get_or, None, Some, MatchResult, Result}
 use Rattle.std.specs.List.{AllByRecursion}
 use Rattle.nb_streams.specs.declared.hexadecimal.DigitsFault.{DigitsFault}
 use Rattle.nb_streams.specs.declared.hexadecimal.DigitsFault.TheVariants.{BadDigits, NoMemory}
@@ -20,7 +20,7 @@ use Rattle.nb_datagram.specs.Fragment.{DatagramParts}
 use Rattle.nb_datagram.specs.Pieces.{AreTooLong}
 use Rattle.nb_datagram.specs.FaultTexts.{kind_text}
 use Rattle.nb_service.specs.declared.kinds.TheConstants.{NS}
-use Rattle.nb_building.specs.Built.{KeyText, NumberText, WordText}
+use Rattle.nb_building.specs.Built.{IsServiceBuilt, IsSessionBuilt, KeyText, NamesAny, NamesDatagrams, NumberText, WordText}
 
 -- the fault of the word at a place, whose digits were refused
 abbrev pub of_digits : ℕ → DigitsFault → BuildFault
@@ -42,6 +42,14 @@ NamesNone {A} place Named fault = (fault ≡ Word place) × ((value : A) → ¬ 
 -- IsRefused place Named fault: the same, or memory ran out
 abbrev pub IsRefused : {A : Type 0} → ℕ → (A → Type 0) → BuildFault → Type 0
 IsRefused place Named fault = (fault ≡ Memory) ⊎ NamesNone place Named fault
+
+-- Reads place Named result: a value is named, or the word at the place is refused so
+abbrev pub Reads : {A : Type 0} → ℕ → (A → Type 0) → Result A BuildFault → Type 0
+Reads place Named result = MatchResult result Named (IsRefused place Named)
+
+-- Finds place Named result: the same, whatever memory there is
+abbrev pub Finds : {A : Type 0} → ℕ → (A → Type 0) → Result A BuildFault → Type 0
+Finds place Named result = MatchResult result Named (NamesNone place Named)
 
 -- IsTextRefused place text fault: the fault is that of the text at this place, which stands for no name
 pub record IsTextRefused (place : ℕ) (text : List ℕ) (fault : BuildFault) : Type 0 where
@@ -96,3 +104,19 @@ abbrev pub IsUnanswered : ℕ → ℕ → List ℕ → BuildFault → Type 0
 IsUnanswered place kind bytes fault =
     ((fault ≡ TooLong) × (kind ≢ NS) × (65535 < length bytes))
     ⊎ ((fault ≡ Word place) × (kind ≡ NS) × ((labels : List (List ℕ)) → ¬ NameAt bytes Refused 0 labels (length bytes)))
+
+-- the same of the packets of port 137
+abbrev pub ExplainsService : Bool → List ℕ → List (List ℕ) → BuildFault → Type 0
+ExplainsService broadcast what words = Explains (IsServiceBuilt broadcast what words) what words
+
+-- of those of port 139
+abbrev pub ExplainsSession : List ℕ → List (List ℕ) → BuildFault → Type 0
+ExplainsSession what words = Explains (IsSessionBuilt what words) what words
+
+-- of those of port 138
+abbrev pub ExplainsDatagrams : List ℕ → List (List ℕ) → BuildFault → Type 0
+ExplainsDatagrams what words = Explains (NamesDatagrams what words) what words
+
+-- of all
+abbrev pub ExplainsAny : Bool → List ℕ → List (List ℕ) → BuildFault → Type 0
+ExplainsAny broadcast what words = Explains (NamesAny broadcast what words) what words

@@ -9,7 +9,7 @@ ghost use Rattle.nb_streams.specs.Hexadecimal.{DataText, HexText};
 ghost use Rattle.nb_names.specs.Name.{NetbiosName};
 ghost use Rattle.nb_names.specs.NameText.{IsText};
 ghost use Rattle.nb_building.specs.Built.{AddressText, CodeText, KeyText, NumberText, WordText};
-ghost use Rattle.nb_building.specs.Refusals.{IsRefused, IsTextRefused, NamesNone, SplitsAt, of_digits};
+ghost use Rattle.nb_building.specs.Refusals.{Finds, IsTextRefused, NamesNone, Reads, SplitsAt, of_digits};
 
 use crate::build_fault::BuildFault;
 use nb_datagram::Key;
@@ -19,8 +19,7 @@ use std::alloc::Global;
 
 /// A word of a packet, as an identifier or flags: four hexadecimal digits.
 pub fn word(alloc: Global, text: &str, place: usize) -> Result<u16, BuildFault>
-    ensures { MatchResult result (λ number. WordText number text.now)
-        (IsRefused place (λ number. WordText number text.now)) }
+    ensures { Reads place (λ number. WordText number text.now) result }
 {
     let digits = digits(alloc, text, place)?;
     word_of(digits.as_slice(), place)
@@ -53,8 +52,7 @@ pub fn named(text: &str, place: usize) -> Result<Name, BuildFault>
 
 /// A code: two hexadecimal digits.
 pub fn code(alloc: Global, text: &str, place: usize) -> Result<u8, BuildFault>
-    ensures { MatchResult result (λ code. CodeText code text.now)
-        (IsRefused place (λ code. CodeText code text.now)) }
+    ensures { Reads place (λ code. CodeText code text.now) result }
 {
     let digits = digits(alloc, text, place)?;
     code_of(digits.as_slice(), place)
@@ -73,33 +71,24 @@ fn code_of(bytes: &[u8], place: usize) -> Result<u8, BuildFault>
 
 /// A decimal number to 4,294,967,295.
 pub fn long_number(text: &str, place: usize) -> Result<u32, BuildFault>
-    ensures { MatchResult result (λ number. NumberText 4294967295 number text.now)
-        (NamesNone place (λ number. NumberText 4294967295 number text.now)) }
+    ensures { Finds place (λ number. NumberText 4294967295 number text.now) result }
 {
     if !is_decimal(text) {
         return Err(BuildFault::Word(place));
     }
-    match text.parse::<u32>() {
-        Ok(number) => Ok(number),
-        Err(_) => Err(BuildFault::Word(place)),
-    }
+    text.parse::<u32>().or(Err(BuildFault::Word(place)))
 }
 
 /// A decimal number to 65,535.
 pub fn number(text: &str, place: usize) -> Result<u16, BuildFault>
-    ensures { MatchResult result (λ number. NumberText 65535 number text.now)
-        (NamesNone place (λ number. NumberText 65535 number text.now)) }
+    ensures { Finds place (λ number. NumberText 65535 number text.now) result }
 {
-    match u16::try_from(long_number(text, place)?) {
-        Ok(number) => Ok(number),
-        Err(_) => Err(BuildFault::Word(place)),
-    }
+    u16::try_from(long_number(text, place)?).or(Err(BuildFault::Word(place)))
 }
 
 /// An IPv4 address: four decimal numbers to 255, with dots between them.
 pub fn address(text: &str, place: usize) -> Result<[u8; 4], BuildFault>
-    ensures { MatchResult result (λ address. AddressText address text.now)
-        (NamesNone place (λ address. AddressText address text.now)) }
+    ensures { Finds place (λ address. AddressText address text.now) result }
 {
     let (first, rest) = before_dot(text, place)?;
     let (second, rest) = before_dot(rest, place)?;
@@ -109,8 +98,7 @@ pub fn address(text: &str, place: usize) -> Result<[u8; 4], BuildFault>
 
 /// A datagram's key: its sender's address and port, and the identifier, as `10.0.0.5:138/0001`.
 pub fn key(alloc: Global, text: &str, place: usize) -> Result<Key, BuildFault>
-    ensures { MatchResult result (λ key. KeyText key text.now)
-        (IsRefused place (λ key. KeyText key text.now)) }
+    ensures { Reads place (λ key. KeyText key text.now) result }
 {
     let (sender, id) = parts(text, '/', place)?;
     let (ip, port) = parts(sender, ':', place)?;
@@ -123,24 +111,16 @@ pub fn key(alloc: Global, text: &str, place: usize) -> Result<Key, BuildFault>
 
 /// Data: hexadecimal digits, two a byte and at least two, or `empty`.
 pub fn data(alloc: Global, text: &str, place: usize) -> Result<Bytes, BuildFault>
-    ensures { MatchResult result (λ bytes. DataText bytes text.now)
-        (IsRefused place (λ bytes. DataText bytes text.now)) }
+    ensures { Reads place (λ bytes. DataText bytes text.now) result }
 {
-    match data_of_text(alloc, text.as_bytes()) {
-        Ok(bytes) => Ok(bytes),
-        Err(fault) => Err(digits_fault(fault, place)),
-    }
+    data_of_text(alloc, text.as_bytes()).map_err(|fault| digits_fault(fault, place))
 }
 
 /// The bytes of hexadecimal digits, two a byte.
 fn digits(alloc: Global, text: &str, place: usize) -> Result<Bytes, BuildFault>
-    ensures { MatchResult result (λ bytes. HexText bytes text.now)
-        (IsRefused place (λ bytes. HexText bytes text.now)) }
+    ensures { Reads place (λ bytes. HexText bytes text.now) result }
 {
-    match bytes_of_digits(alloc, text.as_bytes()) {
-        Ok(bytes) => Ok(bytes),
-        Err(fault) => Err(digits_fault(fault, place)),
-    }
+    bytes_of_digits(alloc, text.as_bytes()).map_err(|fault| digits_fault(fault, place))
 }
 
 /// The fault of the word at a place, whose digits were refused.
@@ -159,10 +139,7 @@ fn parts(text: &str, mark: char, place: usize) -> Result<(&str, &str), BuildFaul
     ensures { MatchResult result (λ parts. SplitsAt mark text.now parts.0.now parts.1.now)
         (NamesNone place (λ (parts : List ℕ × List ℕ). text.now ≡ parts.0 ++ mark ∷ parts.1)) }
 {
-    match text.split_once(mark) {
-        Some(parts) => Ok(parts),
-        None => Err(BuildFault::Word(place)),
-    }
+    text.split_once(mark).ok_or(BuildFault::Word(place))
 }
 
 /// The decimal number to 255 before the first dot, and what stands behind it.
@@ -178,13 +155,9 @@ fn before_dot(text: &str, place: usize) -> Result<(u8, &str), BuildFault>
 
 /// A decimal number to 255.
 fn small_number(text: &str, place: usize) -> Result<u8, BuildFault>
-    ensures { MatchResult result (λ number. NumberText 255 number text.now)
-        (NamesNone place (λ number. NumberText 255 number text.now)) }
+    ensures { Finds place (λ number. NumberText 255 number text.now) result }
 {
-    match u8::try_from(long_number(text, place)?) {
-        Ok(number) => Ok(number),
-        Err(_) => Err(BuildFault::Word(place)),
-    }
+    u8::try_from(long_number(text, place)?).or(Err(BuildFault::Word(place)))
 }
 
 /// Whether a text is decimal digits, none of them a leading zero.
@@ -195,21 +168,8 @@ fn is_decimal(text: &str) -> bool
         → list_all is_ascii_digit text.now ≡ true → IsTrue result }
 {
     let digits = text.as_bytes();
-    if !has_no_leading_zero(digits) {
-        return false;
-    }
-    are_digits(digits)
-}
-
-/// Whether more than one digit don't begin with a zero.
-fn has_no_leading_zero(digits: &[u8]) -> bool
-    ensures leading { IsTrue result → slice_index digits.now 0 ≡ 48 → length digits.now < 2 }
-    ensures only { (slice_index digits.now 0 ≡ 48 → length digits.now < 2) → IsTrue result }
-{
-    if digits.len() < 2 {
-        return true;
-    }
-    digits[0] != b'0'
+    let has_leading_zero = digits.len() > 1 && digits[0] == b'0';
+    !has_leading_zero && are_digits(digits)
 }
 
 /// Whether each byte is a decimal digit.

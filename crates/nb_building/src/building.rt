@@ -1,8 +1,8 @@
 //! The packets that words name, as the lines of a capture.
-ghost use Rattle.std.specs.Prelude.{◌≡◌, ◌++◌, ℕ, Bool, List, map, IfErr, IfOk, OnOk, string_bytes};
+ghost use Rattle.std.specs.Prelude.{◌≡◌, ◌++◌, Bool, IfErr, IfOk, OnOk, string_bytes};
 ghost use Rattle.nb_building.specs.Building.{AreLinesOf, payload_line, payload_lines};
-ghost use Rattle.nb_building.specs.Built.{IsServiceBuilt, IsSessionBuilt, Names, NamesDatagrams};
-ghost use Rattle.nb_building.specs.Refusals.{Explains, Unnamed, GiveTooMuch};
+ghost use Rattle.nb_building.specs.Built.{NamesAny, texts};
+ghost use Rattle.nb_building.specs.Refusals.{ExplainsAny, ExplainsDatagrams, ExplainsService, ExplainsSession, Unnamed, GiveTooMuch};
 ghost use Rattle.nb_building.specs.Words.{IsDatagramWord, IsServiceWord, IsSessionWord};
 
 use crate::build_fault::BuildFault;
@@ -46,16 +46,13 @@ pub fn capture_lines(
     words: &[&str],
     broadcast: bool,
 ) -> Result<String, BuildFault>
-    ensures built { IfOk result (λ lines. AreLinesOf broadcast what.now (map (λ w. w.now) words.now)
-        (string_bytes lines)) }
+    ensures built { IfOk result
+        (λ lines. AreLinesOf broadcast what.now (texts words.now) (string_bytes lines)) }
     ensures too_long { IfErr result (λ fault. fault ≡ BuildFault.TooLong →
-        GiveTooMuch what.now (map (λ w. w.now) words.now)) }
-    ensures refused { IfErr result (Unnamed (λ (packets : ℕ × List (List ℕ)).
-        Names broadcast what.now (map (λ w. w.now) words.now) packets.0 packets.1)) }
+        GiveTooMuch what.now (texts words.now)) }
+    ensures refused { IfErr result (Unnamed (NamesAny broadcast what.now (texts words.now))) }
     // Which word is wrong: the first that the packet doesn't take.
-    ensures why { IfErr result (Explains (λ (packets : ℕ × List (List ℕ)).
-        Names broadcast what.now (map (λ w. w.now) words.now) packets.0 packets.1)
-        what.now (map (λ w. w.now) words.now)) }
+    ensures why { IfErr result (ExplainsAny broadcast what.now (texts words.now)) }
 {
     match what {
         "query" | "status" | "registration" | "refresh" | "release" | "response" => {
@@ -79,37 +76,31 @@ fn service_line(
     broadcast: bool,
 ) -> Result<String, BuildFault>
     requires { IsServiceWord what.now }
-    ensures built { IfOk result (λ lines. AreLinesOf broadcast what.now (map (λ w. w.now) words.now)
-        (string_bytes lines)) }
-    ensures refused { IfErr result
-        (Explains (IsServiceBuilt broadcast what.now (map (λ w. w.now) words.now))
-        what.now (map (λ w. w.now) words.now)) }
+    ensures built { IfOk result
+        (λ lines. AreLinesOf broadcast what.now (texts words.now) (string_bytes lines)) }
+    ensures refused { IfErr result (ExplainsService broadcast what.now (texts words.now)) }
 {
     let packet = service::build(alloc, what, words, broadcast)?;
-    Ok(line(alloc, 137, &packet)?)
+    Ok(lines(alloc, 137, &[packet])?)
 }
 
 /// The line of a session packet.
 fn session_line(alloc: Global, what: &str, words: &[&str]) -> Result<String, BuildFault>
     requires { IsSessionWord what.now }
     ensures built { IfOk result (λ lines. (broadcast : Bool) →
-        AreLinesOf broadcast what.now (map (λ w. w.now) words.now) (string_bytes lines)) }
-    ensures refused { IfErr result
-        (Explains (IsSessionBuilt what.now (map (λ w. w.now) words.now))
-        what.now (map (λ w. w.now) words.now)) }
+        AreLinesOf broadcast what.now (texts words.now) (string_bytes lines)) }
+    ensures refused { IfErr result (ExplainsSession what.now (texts words.now)) }
 {
     let packet = session::build(alloc, what, words)?;
-    Ok(line(alloc, 139, &packet)?)
+    Ok(lines(alloc, 139, &[packet])?)
 }
 
 /// The lines of the packets of a datagram, or of one that is no fragment.
 fn datagram_lines(alloc: Global, what: &str, words: &[&str]) -> Result<String, BuildFault>
     requires { IsDatagramWord what.now }
     ensures built { IfOk result (λ lines. (broadcast : Bool) →
-        AreLinesOf broadcast what.now (map (λ w. w.now) words.now) (string_bytes lines)) }
-    ensures refused { IfErr result
-        (Explains (NamesDatagrams what.now (map (λ w. w.now) words.now))
-        what.now (map (λ w. w.now) words.now)) }
+        AreLinesOf broadcast what.now (texts words.now) (string_bytes lines)) }
+    ensures refused { IfErr result (ExplainsDatagrams what.now (texts words.now)) }
 {
     let packets = datagram::build(alloc, what, words)?;
     Ok(lines(alloc, 138, packets.as_slice())?)
@@ -123,15 +114,6 @@ fn lines(alloc: Global, port: u16, payloads: &[Bytes]) -> Result<String, NoMemor
     for payload in payloads {
         push_line(port, payload, &mut text)?;
     }
-    Ok(text)
-}
-
-/// The capture line of a payload.
-fn line(alloc: Global, port: u16, payload: &Bytes) -> Result<String, NoMemory>
-    ensures { IfOk result (λ text. string_bytes text ≡ payload_line port payload.now) }
-{
-    let mut text = String::new(alloc);
-    push_line(port, payload, &mut text)?;
     Ok(text)
 }
 

@@ -4,8 +4,8 @@ ghost use Rattle.nb_datagram.specs.Packet.{packet_bytes};
 ghost use Rattle.nb_datagram.specs.Pieces.{AreTooLong, pieces};
 ghost use Rattle.nb_datagram.specs.FaultTexts.{kind_text};
 ghost use Rattle.nb_text.specs.Words.{query_word};
-ghost use Rattle.nb_building.specs.Built.{NamesDatagrams};
-ghost use Rattle.nb_building.specs.Refusals.{Explains};
+ghost use Rattle.nb_building.specs.Built.{NamesDatagrams, texts};
+ghost use Rattle.nb_building.specs.Refusals.{ExplainsDatagrams};
 ghost use Rattle.nb_building.specs.Words.{IsDatagramWord};
 
 use crate::arguments::{code, data, key, named, number};
@@ -17,16 +17,11 @@ use nb_datagram::{
 use nb_streams::{Bytes, Items, NoMemory};
 use std::alloc::Global;
 
-/// The bytes of the packets that WHAT and its arguments give.
-///
-/// `unique`, `group` and `broadcast` take KEY SOURCE DESTINATION HEX MOST and give a packet for
-/// each piece; `error` takes KEY CODE; `find`, `found` and `missing` take KEY NAME.
+/// The bytes of the packets that WHAT and its arguments give: of a datagram one for each piece.
 pub fn build(alloc: Global, what: &str, words: &[&str]) -> Result<Items<Bytes>, BuildFault>
     requires { IsDatagramWord what.now }
-    ensures built { IfOk result (NamesDatagrams what.now (map (λ w. w.now) words.now)) }
-    ensures refused { IfErr result
-        (Explains (NamesDatagrams what.now (map (λ w. w.now) words.now))
-        what.now (map (λ w. w.now) words.now)) }
+    ensures built { IfOk result (NamesDatagrams what.now (texts words.now)) }
+    ensures refused { IfErr result (ExplainsDatagrams what.now (texts words.now)) }
 {
     match what {
         "unique" => fragments(alloc, Kind::Unique, words),
@@ -42,10 +37,8 @@ pub fn build(alloc: Global, what: &str, words: &[&str]) -> Result<Items<Bytes>, 
 
 /// The packets of the pieces of a datagram, from KEY SOURCE DESTINATION HEX MOST.
 fn fragments(alloc: Global, kind: Kind, words: &[&str]) -> Result<Items<Bytes>, BuildFault>
-    ensures built { IfOk result (NamesDatagrams (kind_text kind) (map (λ w. w.now) words.now)) }
-    ensures refused { IfErr result
-        (Explains (NamesDatagrams (kind_text kind) (map (λ w. w.now) words.now))
-        (kind_text kind) (map (λ w. w.now) words.now)) }
+    ensures built { IfOk result (NamesDatagrams (kind_text kind) (texts words.now)) }
+    ensures refused { IfErr result (ExplainsDatagrams (kind_text kind) (texts words.now)) }
 {
     let [place, source, destination, digits, most] = words else {
         return Err(BuildFault::Count);
@@ -90,10 +83,8 @@ fn encoded_pieces(alloc: Global, pieces: Pieces<'_>) -> Result<Items<Bytes>, NoM
 
 /// An error packet, from KEY CODE.
 fn error(alloc: Global, words: &[&str]) -> Result<Items<Bytes>, BuildFault>
-    ensures built { IfOk result (NamesDatagrams (codes "error") (map (λ w. w.now) words.now)) }
-    ensures refused { IfErr result
-        (Explains (NamesDatagrams (codes "error") (map (λ w. w.now) words.now))
-        (codes "error") (map (λ w. w.now) words.now)) }
+    ensures built { IfOk result (NamesDatagrams (codes "error") (texts words.now)) }
+    ensures refused { IfErr result (ExplainsDatagrams (codes "error") (texts words.now)) }
 {
     let [place, digits] = words else {
         return Err(BuildFault::Count);
@@ -107,10 +98,8 @@ fn error(alloc: Global, words: &[&str]) -> Result<Items<Bytes>, BuildFault>
 
 /// A query packet, from KEY NAME.
 fn query(alloc: Global, kind: QueryKind, words: &[&str]) -> Result<Items<Bytes>, BuildFault>
-    ensures built { IfOk result (NamesDatagrams (query_word kind) (map (λ w. w.now) words.now)) }
-    ensures refused { IfErr result
-        (Explains (NamesDatagrams (query_word kind) (map (λ w. w.now) words.now))
-        (query_word kind) (map (λ w. w.now) words.now)) }
+    ensures built { IfOk result (NamesDatagrams (query_word kind) (texts words.now)) }
+    ensures refused { IfErr result (ExplainsDatagrams (query_word kind) (texts words.now)) }
 {
     let [place, name] = words else {
         return Err(BuildFault::Count);

@@ -1,5 +1,5 @@
 //! A response of the name service from arguments.
-ghost use Rattle.std.specs.Prelude.{◌≡◌, ◌⊎◌, ℕ, [], ◌∷◌, map, codes, Err, IfErr, IfOk, MatchResult, Ok, length};
+ghost use Rattle.std.specs.Prelude.{◌≡◌, ◌⊎◌, ℕ, [], ◌∷◌, codes, Err, IfErr, IfOk, MatchResult, Ok, length};
 ghost use Rattle.nb_names.specs.declared.reading.Pointers.TheVariants.{Refused};
 ghost use Rattle.nb_names.specs.Labels.{NameAt};
 ghost use Rattle.nb_names.specs.Name.{labels_of_name};
@@ -8,8 +8,8 @@ ghost use Rattle.nb_service.specs.declared.kinds.TheConstants.{NS};
 ghost use Rattle.nb_service.specs.Requests.{packet_of};
 ghost use Rattle.nb_service.specs.Encoding.{packet_bytes};
 ghost use Rattle.nb_service.specs.Record.{ResourceData, ResourceRecord, record_of};
-ghost use Rattle.nb_building.specs.Built.{IsServiceBuilt, WordText, HasRdata, with_flag};
-ghost use Rattle.nb_building.specs.Refusals.{Explains, IsRefused, IsUnanswered, NamesNone};
+ghost use Rattle.nb_building.specs.Built.{IsServiceBuilt, WordText, HasRdata, texts, with_flag};
+ghost use Rattle.nb_building.specs.Refusals.{ExplainsService, IsRefused, Finds, IsUnanswered};
 
 use crate::arguments::{data, long_number, named, word};
 use crate::build_fault::BuildFault;
@@ -21,21 +21,11 @@ use nb_streams::Bytes;
 use std::alloc::Global;
 
 /// The bytes of the response that ID WORD NAME TYPE TTL HEX give: a packet with one answer, of
-/// class IN, and nothing else. `broadcast` sets B in WORD.
-///
-/// # Errors
-///
-/// [`BuildFault::Count`]; else that of the first argument from the left that is refused, as HEX is
-/// that isn't the spelling of a domain name where TYPE is NS;
-/// [`BuildFault::TooLong`] for HEX of more than 65,535 bytes; [`BuildFault::Memory`].
-///
-/// RFC 1002 section 4.2.1.3.
+/// class IN (RFC 1002 section 4.2.1.3). `broadcast` sets B in WORD.
 pub fn build(alloc: Global, words: &[&str], broadcast: bool) -> Result<Bytes, BuildFault>
-    ensures built { IfOk result
-        (IsServiceBuilt broadcast (codes "response") (map (λ w. w.now) words.now)) }
+    ensures built { IfOk result (IsServiceBuilt broadcast (codes "response") (texts words.now)) }
     ensures refused { IfErr result
-        (Explains (IsServiceBuilt broadcast (codes "response") (map (λ w. w.now) words.now))
-        (codes "response") (map (λ w. w.now) words.now)) }
+        (ExplainsService broadcast (codes "response") (texts words.now)) }
 {
     let [id, flags, name, kind, ttl, digits] = words else {
         return Err(BuildFault::Count);
@@ -92,8 +82,7 @@ fn answer<'a>(
 
 /// The domain name whose spelling the bytes are.
 fn domain_of(bytes: &[u8], place: usize) -> Result<DomainName, BuildFault>
-    ensures { MatchResult result (λ labels. NameAt bytes.now Refused 0 labels (length bytes.now))
-        (NamesNone place (λ labels. NameAt bytes.now Refused 0 labels (length bytes.now))) }
+    ensures { Finds place (λ labels. NameAt bytes.now Refused 0 labels (length bytes.now)) result }
 {
     match read_domain(bytes, 0, Pointers::Refused) {
         Ok((domain, next)) if next == bytes.len() => Ok(domain),
@@ -114,17 +103,7 @@ fn answered(
         ⊎ (answer.entry ≡ Err fault)) }
 {
     match answer {
-        Ok(answer) => encoded(alloc, id, word, answer),
+        Ok(answer) => Ok(encode(alloc, &response(alloc, id, word, answer)?)?),
         Err(fault) => Err(fault),
     }
-}
-
-/// The bytes of a packet with this answer, and nothing else.
-fn encoded(alloc: Global, id: u16, word: u16, answer: Record<'_>) -> Result<Bytes, BuildFault>
-    ensures { MatchResult result (λ bytes.
-        bytes ≡ packet_bytes (packet_of id word [] (answer.entry ∷ []) [] []))
-        (λ fault. fault ≡ BuildFault.Memory) }
-{
-    let packet = response(alloc, id, word, answer)?;
-    Ok(encode(alloc, &packet)?)
 }

@@ -1,9 +1,9 @@
 //! Name service packets from arguments.
-ghost use Rattle.std.specs.Prelude.{◌≡◌, ◌⊎◌, map, codes, IfErr, IfOk, Ok};
+ghost use Rattle.std.specs.Prelude.{◌≡◌, ◌⊎◌, codes, IfErr, IfOk, Ok};
 ghost use Rattle.nb_service.specs.Packet.{ServicePacket};
 ghost use Rattle.nb_service.specs.Encoding.{packet_bytes};
-ghost use Rattle.nb_building.specs.Built.{IsServiceBuilt};
-ghost use Rattle.nb_building.specs.Refusals.{Explains};
+ghost use Rattle.nb_building.specs.Built.{IsServiceBuilt, texts};
+ghost use Rattle.nb_building.specs.Refusals.{ExplainsService};
 ghost use Rattle.nb_building.specs.Words.{IsServiceWord};
 
 use crate::arguments::{address, long_number, named, word};
@@ -16,9 +16,6 @@ use nb_streams::{Bytes, NoMemory};
 use std::alloc::Global;
 
 /// The bytes of the packet that WHAT and its arguments give.
-///
-/// `query` and `status` take ID NAME, `registration` and `refresh` ID NAME TTL FLAGS ADDRESS,
-/// `release` ID NAME FLAGS ADDRESS, and `response` ID WORD NAME TYPE TTL HEX.
 pub fn build(
     alloc: Global,
     what: &str,
@@ -26,10 +23,8 @@ pub fn build(
     broadcast: bool,
 ) -> Result<Bytes, BuildFault>
     requires { IsServiceWord what.now }
-    ensures built { IfOk result (IsServiceBuilt broadcast what.now (map (λ w. w.now) words.now)) }
-    ensures refused { IfErr result
-        (Explains (IsServiceBuilt broadcast what.now (map (λ w. w.now) words.now))
-        what.now (map (λ w. w.now) words.now)) }
+    ensures built { IfOk result (IsServiceBuilt broadcast what.now (texts words.now)) }
+    ensures refused { IfErr result (ExplainsService broadcast what.now (texts words.now)) }
 {
     match what {
         "query" => question(alloc, what, words, broadcast),
@@ -45,10 +40,8 @@ pub fn build(
 /// A packet that asks for a name, or for a node's status, from ID NAME.
 fn question(alloc: Global, what: &str, words: &[&str], broadcast: bool) -> Result<Bytes, BuildFault>
     requires { (what.now ≡ codes "query") ⊎ (what.now ≡ codes "status") }
-    ensures built { IfOk result (IsServiceBuilt broadcast what.now (map (λ w. w.now) words.now)) }
-    ensures refused { IfErr result
-        (Explains (IsServiceBuilt broadcast what.now (map (λ w. w.now) words.now))
-        what.now (map (λ w. w.now) words.now)) }
+    ensures built { IfOk result (IsServiceBuilt broadcast what.now (texts words.now)) }
+    ensures refused { IfErr result (ExplainsService broadcast what.now (texts words.now)) }
 {
     let [id, name] = words else {
         return Err(BuildFault::Count);
@@ -65,10 +58,8 @@ fn question(alloc: Global, what: &str, words: &[&str], broadcast: bool) -> Resul
 /// A packet that registers a name, or refreshes it, from ID NAME TTL FLAGS ADDRESS.
 fn claim(alloc: Global, what: &str, words: &[&str], broadcast: bool) -> Result<Bytes, BuildFault>
     requires { (what.now ≡ codes "registration") ⊎ (what.now ≡ codes "refresh") }
-    ensures built { IfOk result (IsServiceBuilt broadcast what.now (map (λ w. w.now) words.now)) }
-    ensures refused { IfErr result
-        (Explains (IsServiceBuilt broadcast what.now (map (λ w. w.now) words.now))
-        what.now (map (λ w. w.now) words.now)) }
+    ensures built { IfOk result (IsServiceBuilt broadcast what.now (texts words.now)) }
+    ensures refused { IfErr result (ExplainsService broadcast what.now (texts words.now)) }
 {
     let [id, name, ttl, flags, place] = words else {
         return Err(BuildFault::Count);
@@ -93,11 +84,8 @@ fn claim(alloc: Global, what: &str, words: &[&str], broadcast: bool) -> Result<B
 
 /// A packet that gives a name up, from ID NAME FLAGS ADDRESS.
 fn withdrawal(alloc: Global, words: &[&str], broadcast: bool) -> Result<Bytes, BuildFault>
-    ensures built { IfOk result
-        (IsServiceBuilt broadcast (codes "release") (map (λ w. w.now) words.now)) }
-    ensures refused { IfErr result
-        (Explains (IsServiceBuilt broadcast (codes "release") (map (λ w. w.now) words.now))
-        (codes "release") (map (λ w. w.now) words.now)) }
+    ensures built { IfOk result (IsServiceBuilt broadcast (codes "release") (texts words.now)) }
+    ensures refused { IfErr result (ExplainsService broadcast (codes "release") (texts words.now)) }
 {
     let [id, name, flags, place] = words else {
         return Err(BuildFault::Count);

@@ -1,8 +1,8 @@
 //! Session packets from arguments.
-ghost use Rattle.std.specs.Prelude.{◌≡◌, ◌⊎◌, [], map, codes, length, IfErr, IfOk};
+ghost use Rattle.std.specs.Prelude.{◌≡◌, ◌⊎◌, [], codes, length, IfErr, IfOk};
 ghost use Rattle.nb_session.specs.Packet.{IsPacket};
-ghost use Rattle.nb_building.specs.Built.{IsSessionBuilt};
-ghost use Rattle.nb_building.specs.Refusals.{Explains};
+ghost use Rattle.nb_building.specs.Built.{IsSessionBuilt, texts};
+ghost use Rattle.nb_building.specs.Refusals.{ExplainsSession};
 ghost use Rattle.nb_building.specs.Words.{IsSessionWord};
 
 use crate::arguments::{address, code, data, named, number};
@@ -12,15 +12,10 @@ use nb_streams::Bytes;
 use std::alloc::Global;
 
 /// The bytes of the packet that WHAT and its arguments give.
-///
-/// `request` takes CALLED CALLING, `message` HEX, `negative` CODE, `retarget` ADDRESS PORT, and
-/// `positive` and `keepalive` take none.
 pub fn build(alloc: Global, what: &str, words: &[&str]) -> Result<Bytes, BuildFault>
     requires { IsSessionWord what.now }
-    ensures built { IfOk result (IsSessionBuilt what.now (map (λ w. w.now) words.now)) }
-    ensures refused { IfErr result
-        (Explains (IsSessionBuilt what.now (map (λ w. w.now) words.now))
-        what.now (map (λ w. w.now) words.now)) }
+    ensures built { IfOk result (IsSessionBuilt what.now (texts words.now)) }
+    ensures refused { IfErr result (ExplainsSession what.now (texts words.now)) }
 {
     match what {
         "request" => request(alloc, words),
@@ -35,10 +30,8 @@ pub fn build(alloc: Global, what: &str, words: &[&str]) -> Result<Bytes, BuildFa
 
 /// The bytes of a request, from CALLED CALLING.
 fn request(alloc: Global, words: &[&str]) -> Result<Bytes, BuildFault>
-    ensures built { IfOk result (IsSessionBuilt (codes "request") (map (λ w. w.now) words.now)) }
-    ensures refused { IfErr result
-        (Explains (IsSessionBuilt (codes "request") (map (λ w. w.now) words.now))
-        (codes "request") (map (λ w. w.now) words.now)) }
+    ensures built { IfOk result (IsSessionBuilt (codes "request") (texts words.now)) }
+    ensures refused { IfErr result (ExplainsSession (codes "request") (texts words.now)) }
 {
     let [called, calling] = words else {
         return Err(BuildFault::Count);
@@ -50,10 +43,8 @@ fn request(alloc: Global, words: &[&str]) -> Result<Bytes, BuildFault>
 
 /// The bytes of a message, from HEX.
 fn message(alloc: Global, words: &[&str]) -> Result<Bytes, BuildFault>
-    ensures built { IfOk result (IsSessionBuilt (codes "message") (map (λ w. w.now) words.now)) }
-    ensures refused { IfErr result
-        (Explains (IsSessionBuilt (codes "message") (map (λ w. w.now) words.now))
-        (codes "message") (map (λ w. w.now) words.now)) }
+    ensures built { IfOk result (IsSessionBuilt (codes "message") (texts words.now)) }
+    ensures refused { IfErr result (ExplainsSession (codes "message") (texts words.now)) }
 {
     let [digits] = words else {
         return Err(BuildFault::Count);
@@ -67,10 +58,8 @@ fn message(alloc: Global, words: &[&str]) -> Result<Bytes, BuildFault>
 
 /// The bytes of a negative response, from CODE.
 fn negative(alloc: Global, words: &[&str]) -> Result<Bytes, BuildFault>
-    ensures built { IfOk result (IsSessionBuilt (codes "negative") (map (λ w. w.now) words.now)) }
-    ensures refused { IfErr result
-        (Explains (IsSessionBuilt (codes "negative") (map (λ w. w.now) words.now))
-        (codes "negative") (map (λ w. w.now) words.now)) }
+    ensures built { IfOk result (IsSessionBuilt (codes "negative") (texts words.now)) }
+    ensures refused { IfErr result (ExplainsSession (codes "negative") (texts words.now)) }
 {
     let [digits] = words else {
         return Err(BuildFault::Count);
@@ -80,10 +69,8 @@ fn negative(alloc: Global, words: &[&str]) -> Result<Bytes, BuildFault>
 
 /// The bytes of a retarget response, from ADDRESS PORT.
 fn retarget(alloc: Global, words: &[&str]) -> Result<Bytes, BuildFault>
-    ensures built { IfOk result (IsSessionBuilt (codes "retarget") (map (λ w. w.now) words.now)) }
-    ensures refused { IfErr result
-        (Explains (IsSessionBuilt (codes "retarget") (map (λ w. w.now) words.now))
-        (codes "retarget") (map (λ w. w.now) words.now)) }
+    ensures built { IfOk result (IsSessionBuilt (codes "retarget") (texts words.now)) }
+    ensures refused { IfErr result (ExplainsSession (codes "retarget") (texts words.now)) }
 {
     let [place, port] = words else {
         return Err(BuildFault::Count);

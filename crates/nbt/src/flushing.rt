@@ -1,8 +1,7 @@
 //! What shows the output before more of the input is waited for.
 
 use std::cell::RefCell;
-use std::io;
-use std::io::{ErrorKind, Read, Write};
+use std::io::{self, ErrorKind, Read, Write};
 
 /// An output that is shared with an input, which flushes it.
 #[derive(Drop)]

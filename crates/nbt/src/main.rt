@@ -40,27 +40,17 @@ fn audience_of<'a>(rt: &HostRuntime, signature: &'a Cell<Signature>) -> Audience
     }
 }
 
-/// Runs the program over the streams of its process. What it prints goes through buffers of fixed
-/// size. What was printed is written out before each read of the input, so that it shows while more
-/// is waited for, and all of it in the end, whatever the program answers.
-///
-/// # Errors
-///
-/// Those of [`words_of`], [`Fault::Memory`] where there is no memory for a buffer, and
-/// [`Fault::Write`] where what was printed can't be written out: this is then reported alone.
+/// Runs the program over the streams of its process, through buffers of fixed size. What it prints
+/// is written out before each read of the input, so that it shows while more is waited for, and all
+/// of it in the end. Where that fails, this is reported alone.
 fn run_buffered(rt: &HostRuntime, signature: &Cell<Signature>) -> Result<u8, Fault> {
     let words = words_of(rt)?;
-    run_words(rt, words.as_slice(), signature)
-}
-
-/// Runs the program with these words, as [`run_buffered`] has it.
-fn run_words(rt: &HostRuntime, words: &[String], signature: &Cell<Signature>) -> Result<u8, Fault> {
     let stdout = buffered(rt.alloc(), rt.stdout())?;
     let mut errors = buffered(rt.alloc(), rt.stderr())?;
     let printed = RefCell::new(stdout);
     let call = Call {
         alloc: rt.alloc(),
-        words,
+        words: words.as_slice(),
         audience: audience_of(rt, signature),
     };
     let input = SignatureInput::new(rt.stdin(), signature);
@@ -79,17 +69,11 @@ fn run_words(rt: &HostRuntime, words: &[String], signature: &Cell<Signature>) ->
 /// What the program answers once its output is flushed.
 fn flushed<W: Write>(answer: Result<u8, Fault>, output: &mut W) -> Result<u8, Fault> {
     let code = answer?;
-    match output.flush() {
-        Ok(()) => Ok(code),
-        Err(_) => Err(Fault::Write),
-    }
+    output.flush().map_err(|_| Fault::Write)?;
+    Ok(code)
 }
 
 /// Runs the program over this input, before each read of which the output in the cell is flushed.
-///
-/// # Errors
-///
-/// [`Fault::Write`] where such a flush failed.
 fn run_flushing<R: Read + Drop, W: Write, E: Write>(
     call: Call<'_>,
     input: R,
@@ -110,18 +94,12 @@ fn run_flushing<R: Read + Drop, W: Write, E: Write>(
 
 /// A device with a buffer of fixed size before it.
 fn buffered<W: Write + Drop>(alloc: Global, device: W) -> Result<BufWriter<Output<W>>, Fault> {
-    match BufWriter::new(alloc, Output::new(device)) {
-        Ok(buffered) => Ok(buffered),
-        Err(_) => Err(Fault::Memory),
-    }
+    BufWriter::new(alloc, Output::new(device)).map_err(|_| Fault::Memory)
 }
 
 /// The words that the program was called with, its own name first.
 fn words_of(rt: &HostRuntime) -> Result<Vec<String>, Fault> {
-    let given = match env::args(rt) {
-        Ok(given) => given,
-        Err(error) => return Err(words_fault(error.kind())),
-    };
+    let given = env::args(rt).map_err(|error| words_fault(error.kind()))?;
     let mut words = Vec::new(rt.alloc());
     for word in given {
         words.push(word)?;

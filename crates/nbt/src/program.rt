@@ -51,16 +51,12 @@ pub fn run<R: Read, W: Write, E: Write>(
     ensures within { result ≤ 3 }
     ensures quiet { result ≡ 0 → errors.new ≡ errors.old }
 {
-    run_for(
-        Call {
-            alloc,
-            words,
-            audience: Audience::Programs,
-        },
-        input,
-        output,
-        errors,
-    )
+    let call = Call {
+        alloc,
+        words,
+        audience: Audience::Programs,
+    };
+    run_for(call, input, output, errors)
 }
 
 /// As [`run`], over streams whose calls are counted, and for those who read standard error: a
@@ -87,12 +83,8 @@ pub fn run_counted<R: Read, W: Write, E: Write>(
 {
     match asked(alloc, &REFUSALS, words) {
         Ok(Some(refusal)) => {
-            return report(
-                alloc,
-                done(print_advice(alloc, refusal, output)),
-                None,
-                errors,
-            );
+            let outcome = done(print_advice(alloc, refusal, output));
+            return report(alloc, outcome, None, errors);
         }
         Ok(None) => {}
         Err(_) => return report(alloc, Err(Fault::Memory), None, errors),
@@ -142,25 +134,17 @@ fn run_command<R: Read, W: Write, E: Write>(
 fn done(outcome: Result<(), Fault>) -> Result<Status, Fault>
     ensures { result ≡ with_status outcome }
 {
-    match outcome {
-        Ok(()) => Ok(Status::Done),
-        Err(fault) => Err(fault),
-    }
+    outcome?;
+    Ok(Status::Done)
 }
 
-/// The outcome of `save`, which answers how many keys the ticks of the capture dropped: a person is
-/// told.
+/// The outcome of `save`; a person is told how many keys the ticks of the capture dropped.
 fn saved<E: Write>(outcome: Result<u64, Fault>, errors: &mut Errors<'_, E>) -> Result<Status, Fault>
     ensures outcome { result ≡ with_status outcome }
     ensures quiet { errors.old.audience ≡ Audience.Programs → errors.new ≡ errors.old }
 {
-    match outcome {
-        Ok(dropped) => {
-            print_dropped(dropped, errors);
-            Ok(Status::Done)
-        }
-        Err(fault) => Err(fault),
-    }
+    print_dropped(outcome?, errors);
+    Ok(Status::Done)
 }
 
 /// The status with which a command ended. Its fault, if it has one, goes to `errors` as a line; a
@@ -187,9 +171,7 @@ pub fn report<E: Write>(
     }
 }
 
-/// The status where clap has no matches of the words. Its text goes to `output` where the help or
-/// the version is asked for, and to `errors` where the words are a bad command line; a person gets
-/// there, in a line more, how files are read, where the words have some.
+/// The status where clap has no matches of the words, whose text says why, or is what is asked for.
 fn report_unmatched<W: Write, E: Write>(
     alloc: Global,
     words: &[String],

@@ -121,19 +121,9 @@ fn blank_object(
     comment.clear();
     push_comment_bytes(line, comment)?;
     match comments {
-        Comments::LeftOut => Ok(room.cleared()),
-        Comments::Printed => printed_object(number, comment.as_str(), room),
+        Comments::Printed if !comment.is_empty() => text_object(number, comment.as_str(), room),
+        _ => Ok(room.cleared()),
     }
-}
-
-/// The object of a comment, or nothing of an empty line.
-fn printed_object(number: u64, comment: &str, room: JsonRoom) -> Result<JsonRoom, NoMemory>
-    ensures { IfOk result (PrintsComment number comment.now) }
-{
-    if comment.is_empty() {
-        return Ok(room.cleared());
-    }
-    text_object(number, comment, room)
 }
 
 /// The object of the comment that the line with this number is, as a line.

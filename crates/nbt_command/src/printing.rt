@@ -23,8 +23,5 @@ pub fn print<W: Write>(output: &mut Counted<W>, bytes: &[u8]) -> Result<(), Faul
     ensures grow { GrowTo output.old.counts output.new.counts }
     ensures why { OnErr result (ShowsWriteFault output.old.counts output.new.counts) }
 {
-    match write_whole(output, bytes) {
-        Ok(()) => Ok(()),
-        Err(_) => Err(Fault::Write),
-    }
+    write_whole(output, bytes).or(Err(Fault::Write))
 }

@@ -1,4 +1,3 @@
 pub mod Common
-pub mod NamesLemmas
 pub mod ShowingFieldsLemmas
 pub mod ShowingLemmas

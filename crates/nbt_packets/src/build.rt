@@ -48,13 +48,9 @@ fn lines_of(alloc: Global, matches: &ArgMatches<'_>) -> Result<String, BuildFaul
     ensures too_long { IfErr result (λ fault. fault ≡ BuildFault.TooLong → AreTooMuch matches.now) }
     ensures refused { IfErr result (λ fault. fault ≢ BuildFault.Memory → NameNone matches.now) }
 {
+    let broadcast = is_given(matches, "broadcast");
     match matches.get_str("WHAT") {
-        Some(what) => capture_lines(
-            alloc,
-            what,
-            words_of(matches),
-            is_given(matches, "broadcast"),
-        ),
+        Some(what) => capture_lines(alloc, what, words_of(matches), broadcast),
         None => Err(BuildFault::What),
     }
 }

@@ -16,8 +16,10 @@ use std::io::Write;
 ///
 /// # Errors
 ///
-/// Those of [`print_spelling`], and with `--bytes` those of [`print_name`]. [`Fault::Arguments`]
-/// where there is no VALUE.
+/// [`Fault::Text`] for a bad name; with `--bytes`, in this order, [`Fault::BadHex`],
+/// [`Fault::Name`] where no name stands there, pointers refused, and [`Fault::TrailingBytes`] where
+/// bytes follow it. [`Fault::Memory`] where memory ran out, [`Fault::Arguments`] where there is no
+/// VALUE. Nothing is printed then. [`Fault::Write`] where the output failed.
 pub fn run_name<W: Write>(
     alloc: Global,
     matches: &ArgMatches<'_>,
@@ -37,45 +39,9 @@ pub fn run_name<W: Write>(
         return Err(Fault::Arguments);
     };
     if matches.get_flag("bytes") {
-        print_name(alloc, value, output)
+        print_line(name_of(alloc, value)?, output)
     } else {
-        print_spelling(alloc, value, output)
-    }
-}
-
-/// Prints the spelling, in hexadecimal, of the name that a text stands for.
-fn print_spelling<W: Write>(alloc: Global, text: &str, output: &mut Counted<W>) -> Result<(), Fault>
-    ensures printed { OnOk result (PrintsSpelling text.now
-        (W.contents output.old.inner) (W.contents output.new.inner)) }
-    ensures fault { IfErr result (IsSpellingFault text.now) }
-    ensures err { IfErr result (Leaves (IsSpellingOf text.now)
-        (W.contents output.old.inner) (W.contents output.new.inner)) }
-    ensures why { ExplainsWrite result output.old.counts output.new.counts }
-{
-    match spelling_of(alloc, text) {
-        Ok(digits) => print_line(digits, output),
-        Err(fault) => Err(fault),
-    }
-}
-
-/// Prints the text of the name whose spelling the digits are, in hexadecimal of either case.
-///
-/// # Errors
-///
-/// In this order: [`Fault::BadHex`]; [`Fault::Name`] where no name stands there, pointers refused;
-/// [`Fault::TrailingBytes`] where bytes follow it; [`Fault::Memory`] where memory ran out; nothing
-/// is printed then. [`Fault::Write`] where the output failed.
-fn print_name<W: Write>(alloc: Global, digits: &str, output: &mut Counted<W>) -> Result<(), Fault>
-    ensures printed { OnOk result (PrintsName digits.now
-        (W.contents output.old.inner) (W.contents output.new.inner)) }
-    ensures fault { IfErr result (IsNameFault digits.now) }
-    ensures err { IfErr result (Leaves (IsNameOf digits.now)
-        (W.contents output.old.inner) (W.contents output.new.inner)) }
-    ensures why { ExplainsWrite result output.old.counts output.new.counts }
-{
-    match name_of(alloc, digits) {
-        Ok(text) => print_line(text, output),
-        Err(fault) => Err(fault),
+        print_line(spelling_of(alloc, value)?, output)
     }
 }
 

@@ -35,34 +35,12 @@ pub fn run_show<R: Read, W: Write>(
 {
     let brief = is_given(matches, "brief");
     let partial = is_given(matches, "partial");
-    if brief {
-        return show_brief(alloc, matches, input, output);
+    match (brief, partial) {
+        (true, true) => Err(Fault::Arguments),
+        (true, false) => show_as(alloc, Phrases::new(alloc), matches, input, output),
+        (false, true) => show_as(alloc, Fronts, matches, input, output),
+        (false, false) => show_as(alloc, Packets, matches, input, output),
     }
-    if partial {
-        return show_as(alloc, Fronts, matches, input, output);
-    }
-    show_as(alloc, Packets, matches, input, output)
-}
-
-/// Shows what each packet of the input is in a phrase, which has no front.
-fn show_brief<R: Read, W: Write>(
-    alloc: Global,
-    matches: &ArgMatches<'_>,
-    input: &mut Counted<R>,
-    output: &mut Counted<W>,
-) -> Result<(), Fault>
-    ensures packets { IsGiven matches.now (codes "partial") false →
-        ShowsAs IsBrief BriefFields tt matches.now
-        (streams R.remaining W.contents input.old input.new output.old output.new) result }
-    ensures fronts { IsGiven matches.now (codes "partial") true → IsUnshown
-        (streams R.remaining W.contents input.old input.new output.old output.new) result }
-    ensures why { WritesShow
-        (streams R.remaining W.contents input.old input.new output.old output.new) result }
-{
-    if is_given(matches, "partial") {
-        return Err(Fault::Arguments);
-    }
-    show_as(alloc, Phrases::new(alloc), matches, input, output)
 }
 
 /// Shows the packets of the input in this form.

@@ -58,30 +58,14 @@ impl<P: PayloadText> LineText for Texts<P> {
         comments: Comments,
     ) -> Result<(), NoMemory> {
         self.text.clear();
-        push_said(number, line, said, comments, &mut self.form, &mut self.text)
+        match said {
+            Some(said) => push_line(number, said, &mut self.form, &mut self.text),
+            None => push_comment(comments, line, &mut self.text),
+        }
     }
 
     fn bytes(&self) -> &[u8] {
         self.text.as_bytes()
-    }
-}
-
-/// Adds the text of what a line says, or of its comment.
-fn push_said<P: PayloadText>(
-    number: u64,
-    line: &[u8],
-    said: &Option<Line>,
-    comments: Comments,
-    form: &mut P,
-    text: &mut String,
-) -> Result<(), NoMemory>
-    ensures { OnOk result ((shown : List ℕ) ×
-        ShowsSaid P.is_text comments number line.now said.now shown ×
-        (string_bytes text.new ≡ string_bytes text.old ++ shown)) }
-{
-    match said {
-        Some(said) => push_line(number, said, form, text),
-        None => push_comment(comments, line, text),
     }
 }
 
@@ -140,10 +124,6 @@ pub trait PayloadText {
     ghost is_text: { List ℕ → ℕ → List ℕ → Type 0 };
 
     /// Adds the text of a payload that came to a port.
-    ///
-    /// # Errors
-    ///
-    /// [`NoMemory`] where memory ran out.
     fn push(&mut self, port: u16, payload: &[u8], text: &mut String) -> Result<(), NoMemory>
         ensures { OnOk result ((shown : List ℕ) × is_text payload.now port shown ×
             (string_bytes text.new ≡ string_bytes text.old ++ shown)) };

@@ -1,5 +1,5 @@
 -- The names that many proofs cite, passed on.
-pub use Rattle.std.proofs.Common.{Bool, Bor, Err, IfErr, IsTrue, List, None, Ok, Option, Result, Some, [], ap, append_assoc, ap₂, arith, codes, cond, drop, false, get_or, inl, inr, is_some, length, map, not, refl, rules, slice_index_or, string_bytes, subst, suc, sym, take, true, true≢false, ℕ, ◌&&◌, ◌++◌, ◌+◌, ◌<◌, ◌||◌, ◌↔◌, ◌∙◌, ◌∷◌, ◌≡◌, ◌≢◌, ◌≤◌}
+pub use Rattle.std.proofs.Common.{◌⊎◌, Bool, Bor, Err, IfErr, IsTrue, List, None, Ok, Option, Result, Some, [], ap, append_assoc, ap₂, arith, codes, cond, drop, false, get_or, inl, inr, is_some, length, map, not, refl, rules, slice_index_or, string_bytes, subst, suc, sym, take, true, true≢false, ℕ, ◌&&◌, ◌++◌, ◌+◌, ◌<◌, ◌||◌, ◌↔◌, ◌∙◌, ◌∷◌, ◌≡◌, ◌≢◌, ◌≤◌}
 pub use Rattle.std.proofs.lemmas.Result.{IfErr-at_err, IfErr-weaker, IfOk-weaker, err_from_is_err_and, on_ok_weaker}
 pub use Rattle.std.specs.Prelude.{T, slice_get, ◌==◌}
 pub use Rattle.std.specs.List.{AllZip, list_any}

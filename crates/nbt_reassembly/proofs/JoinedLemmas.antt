@@ -1,6 +1,9 @@
 -- What `nbt merge` and `nbt agree` have done once the tables of the whole input are read.
-use Rattle.nbt_reassembly.proofs.Common.{◌≡◌, ◌≢◌, ◌≤◌, ◌<◌, ◌+◌, ◌++◌, [], ◌∷◌, ℕ, List, length, take, drop, get_or, slice_get, slice_index_or, Option, Some, refl, sym, ap, ◌∙◌, ap₂, subst, suc, arith, Result, Ok, Err, Appends, Consumes, IsAtEnd, AllZip, AppendsFront, HasLines, TableValue, Capacity, Fault, Memory, NoTables, TwoTablesWanted, Write, Contents, join, joined_all, AreTaken, PrintsText, most_keys, AreTables, contents_of, fault_of_join, FailsOn, IsElsewhere, IsTableLine, JoinFails, MergeFails, input_fails, MergesTables, PrintsJoin, CompareFails, ComparesTables, TablesFail, no_line, not_joined, not_two, one_fails}
+use Rattle.nbt_reassembly.proofs.Common.{◌⊎◌, inl, inr, ArgMatches, Read, Streams, ◌≡◌, ◌≢◌, ◌≤◌, ◌<◌, ◌+◌, ◌++◌, [], ◌∷◌, ℕ, List, length, take, drop, get_or, slice_get, slice_index_or, Option, Some, refl, sym, ap, ◌∙◌, ap₂, subst, suc, arith, Result, Ok, Err, Appends, Consumes, IsAtEnd, AllZip, AppendsFront, HasLines, TableValue, Capacity, Fault, Memory, NoTables, TwoTablesWanted, Write, Contents, join, joined_all, AreTaken, PrintsText, most_keys, AreTables, contents_of, fault_of_join, FailsOn, IsElsewhere, IsTableLine, JoinFails, MergeFails, input_fails, MergesTables, PrintsJoin, CompareFails, ComparesTables, TablesFail, no_line, not_joined, not_two, one_fails}
+use Rattle.std.specs.Io.KnownBytes.{Keeps}
 use Rattle.nb_streams.specs.declared.limits.TheConstants.{MAX_INPUT}
+use Rattle.nbt_command.specs.Input.{WasCut}
+use Rattle.nbt_reassembly.specs.Commands.{AgreeCommand}
 use Rattle.nb_table.specs.Merging.{Fits, IsRefused}
 use Rattle.nb_table.specs.declared.fault.TableFault.{TableFault}
 use Rattle.nbt_reassembly.specs.Tables.{line_fails}
@@ -159,3 +162,20 @@ pub compare_of_line : (old_in new_in : Option (List ℕ)) (text count_text read_
 compare_of_line old_in new_in text count_text read_text n fault counted same read ended within lines two fails here =
     let has = subst (λ (bytes : List ℕ). HasLines bytes lines.0) counted lines.1 in
     (text, read, ended, within, one_fails lines.0 has (sym lines.2 ∙ two) (subst (λ (bytes : List ℕ). TablesFail most_keys bytes fault) same (fails (not_memory fault here))))
+
+-- nothing is told of two tables
+pub untold : (matches : ArgMatches) (s : Streams) (fault : Fault) → fault ≢ Write → (fault ≡ Read → WasCut MAX_INPUT s.old_in s.new_in s.reads s.reads_after)
+    → Keeps s.old_out s.new_out → FailsOn CompareFails s.old_in s.new_in fault → AgreeCommand matches s (Err fault)
+untold matches s fault no_write cut kept fails = record {
+  printed = λ list given. tt;
+  status = tt;
+  err = λ other. kept;
+  write = λ list given write. absurd (no_write write);
+  fault = fails;
+  cut = cut;
+  why = λ write. absurd (no_write write);
+}
+
+pub is_elsewhere : (fault : Fault) → (fault ≡ Memory) ⊎ (fault ≡ Write) → IsElsewhere fault × (fault ≢ Read)
+is_elsewhere fault (inl is) = rw is (tt, λ read. absurd (cc read))
+is_elsewhere fault (inr is) = rw is (tt, λ read. absurd (cc read))

@@ -26,15 +26,16 @@ use std::collections::BTreeMap;
 use std::io::{Read, Write};
 
 /// `nbt agree [--list]`: reads two saved tables in hexadecimal, a line each, and prints whether
-/// they are equal. Where they aren't, the status is that of refused input; with `--list` the keys
-/// at which they differ are printed, as [`print_differences`] has it.
+/// they are equal. Where they aren't, the status is that of refused input; with `--list` each key
+/// at which they differ is printed, ascending: `1 ` and `2 ` with the line that `nbt list` prints
+/// of it, or `absent`.
 ///
 /// # Errors
 ///
 /// [`Fault::Read`] where the input couldn't be read to its end; then [`Fault::TwoTablesWanted`] for
-/// another number of lines; then the first malformed line, as [`tables_of`] has it.
-/// [`Fault::Memory`] where memory ran out. Nothing is printed then. [`Fault::Write`] where the
-/// output failed.
+/// another number of lines; then, line by line, [`Fault::Line`] for one that is empty or no
+/// hexadecimal, [`Fault::Load`] for one that is no saved table. [`Fault::Memory`] where memory ran
+/// out. Nothing is printed then. [`Fault::Write`] where the output failed.
 pub fn run_agree<R: Read, W: Write>(
     alloc: Global,
     matches: &ArgMatches<'_>,
@@ -44,34 +45,7 @@ pub fn run_agree<R: Read, W: Write>(
     ensures { AgreeCommand matches.now (streams R.remaining W.contents
         input.old input.new output.old output.new) result }
 {
-    compare(alloc, is_given(matches, "list"), input, output)
-}
-
-/// Reads two tables, and prints whether they are equal, and where they aren't, if that is asked
-/// for.
-fn compare<R: Read, W: Write>(
-    alloc: Global,
-    list: bool,
-    input: &mut Counted<R>,
-    output: &mut Counted<W>,
-) -> Result<Status, Fault>
-    ensures printed { IfOk result (λ status. ComparesTables (λ t u. Tells list t u status
-        (W.contents output.old.inner) (W.contents output.new.inner))
-        (R.remaining input.old.inner) (R.remaining input.new.inner)) }
-    ensures status { IfOk result (λ status. status ≢ Status.BadUsage) }
-    ensures err { IfErr result (λ fault. fault ≢ Fault.Write →
-        Keeps (W.contents output.old.inner) (W.contents output.new.inner)) }
-    ensures write { IfErr result (λ fault. fault ≡ Fault.Write →
-        ComparesTables (λ t u. TellsFront list t u
-        (W.contents output.old.inner) (W.contents output.new.inner))
-        (R.remaining input.old.inner) (R.remaining input.new.inner)) }
-    ensures fault { IfErr result (FailsOn CompareFails
-        (R.remaining input.old.inner) (R.remaining input.new.inner)) }
-    ensures cut { IfErr result (λ fault. fault ≡ Fault.Read →
-        WasCut MAX_INPUT (R.remaining input.old.inner) (R.remaining input.new.inner)
-        input.old.counts input.new.counts) }
-    ensures why { ExplainsWrite result output.old.counts output.new.counts }
-{
+    let list = is_given(matches, "list");
     let text = whole_input(alloc, input)?;
     if count_lines(text.as_slice()) != 2 {
         return Err(Fault::TwoTablesWanted);
@@ -87,8 +61,7 @@ fn compare<R: Read, W: Write>(
     }
 }
 
-/// Prints whether two tables are the same, and where they aren't, if that is asked for; answers the
-/// status for it.
+/// Prints whether two tables are the same, and answers the status for it.
 fn tell_same<W: Write>(
     alloc: Global,
     list: bool,
@@ -112,39 +85,12 @@ fn tell_same<W: Write>(
         return Ok(Status::Done);
     }
     if list {
-        print_differences(alloc, first, second, output)?;
+        let lines = differences_of(alloc, first, second)?;
+        print(output, lines.as_bytes())?;
     } else {
         print(output, b"different\n")?;
     }
     Ok(Status::Refused)
-}
-
-/// Prints that two tables differ, and of each key at which they do, ascending, what either has:
-/// `1 ` and `2 ` with the line that `nbt list` prints of it, or `absent`.
-///
-/// # Errors
-///
-/// [`Fault::Memory`] where memory ran out; nothing is printed then. [`Fault::Write`] where the
-/// output failed.
-pub fn print_differences<W: Write>(
-    alloc: Global,
-    one: &Table,
-    other: &Table,
-    output: &mut Counted<W>,
-) -> Result<(), Fault>
-    ensures printed { OnOk result (Appends (W.contents output.old.inner)
-        (W.contents output.new.inner)
-        (difference_text true one.now.contents other.now.contents)) }
-    ensures fault { IfErr result (λ fault. (fault ≡ Fault.Memory) ⊎ (fault ≡ Fault.Write)) }
-    ensures err { IfErr result (λ fault. fault ≢ Fault.Write →
-        Keeps (W.contents output.old.inner) (W.contents output.new.inner)) }
-    ensures write { IfErr result (λ fault. fault ≡ Fault.Write →
-        AppendsFront (W.contents output.old.inner) (W.contents output.new.inner)
-        (difference_text true one.now.contents other.now.contents)) }
-    ensures why { ExplainsWrite result output.old.counts output.new.counts }
-{
-    let lines = differences_of(alloc, one, other)?;
-    print(output, lines.as_bytes())
 }
 
 /// The lines for two tables that differ.
@@ -154,26 +100,11 @@ fn differences_of(alloc: Global, one: &Table, other: &Table) -> Result<String, N
 {
     let keys = differing_keys(alloc, one, other)?;
     let mut lines = String::new(alloc);
-    push_differences(&keys, one, other, &mut lines)?;
-    Ok(lines)
-}
-
-/// Adds that two tables differ, and what either has at each of these keys.
-fn push_differences(
-    keys: &BTreeMap<Key, ()>,
-    one: &Table,
-    other: &Table,
-    text: &mut String,
-) -> Result<(), NoMemory>
-    ensures { OnOk result (string_bytes text.new ≡ string_bytes text.old
-        ++ (line (codes "different") ++ lines_of_keys one.now.contents other.now.contents
-        (maps.keys (maps.from_entries {R = key_cmp} keys.now.entries)))) }
-{
-    text.push_str("different\n")?;
+    lines.push_str("different\n")?;
     for key in keys.keys() {
-        push_two_lines(one, other, *key, text)?;
+        push_two_lines(one, other, *key, &mut lines)?;
     }
-    Ok(())
+    Ok(lines)
 }
 
 /// The keys at which two tables differ.
@@ -199,21 +130,10 @@ fn mark_each(
         (maps.from_entries {R = key_cmp} marks.old.entries) (maps.keys held.now.contents)) }
 {
     for key in held.keys() {
-        mark(marks, key, one, other)?;
+        if !one.same_at(other, &key) {
+            marks.insert(key, ())?;
+        }
     }
-    Ok(())
-}
-
-/// Marks a key, if two tables differ at it.
-fn mark(marks: &mut BTreeMap<Key, ()>, key: Key, one: &Table, other: &Table) -> Result<(), NoMemory>
-    ensures { OnOk result (maps.from_entries {R = key_cmp} marks.new.entries
-        ≡ with_mark one.now.contents other.now.contents
-        (maps.from_entries {R = key_cmp} marks.old.entries) key) }
-{
-    if one.same_at(other, &key) {
-        return Ok(());
-    }
-    marks.insert(key, ())?;
     Ok(())
 }
 

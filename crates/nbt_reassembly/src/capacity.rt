@@ -23,10 +23,6 @@ pub struct Capacity {
 
 /// The capacity that the options say: as many keys as `--keys`, and of one address as many as
 /// `--per-source`, or 4,294,967,295 where that isn't given.
-///
-/// # Errors
-///
-/// [`Fault::Arguments`] where the words hold no number of keys.
 pub fn capacity_of(matches: &ArgMatches<'_>) -> Result<Capacity, Fault>
     ensures given { IfOk result (IsCapacity matches.now) }
     ensures fault { IfErr result (λ fault. fault ≡ Fault.Arguments) }

@@ -21,8 +21,7 @@ use std::io::{Read, Write};
 ///
 /// # Errors
 ///
-/// Those of [`joined_input`]; [`Fault::Memory`] where memory ran out. Nothing is printed then.
-/// [`Fault::Write`] where the output failed.
+/// Those of [`crate::run_merge`].
 pub fn run_list<R: Read, W: Write>(
     alloc: Global,
     matches: &ArgMatches<'_>,

@@ -14,7 +14,11 @@ use std::io::{Read, Write};
 ///
 /// # Errors
 ///
-/// Those of [`joined_input`]; [`Fault::Memory`] where memory ran out. Nothing is printed then.
+/// [`Fault::Read`] where the input couldn't be read to its end; then, line by line, [`Fault::Line`]
+/// for one that is empty or no hexadecimal, [`Fault::Load`] for one that is no saved table, or one
+/// over the limits; then [`Fault::NoTables`] where there is no line, and, where the tables have
+/// more keys together than one may hold, [`Fault::FullSource`] if they are of one address, else
+/// [`Fault::Full`]. [`Fault::Memory`] where memory ran out. Nothing is printed then.
 /// [`Fault::Write`] where the output failed.
 pub fn run_merge<R: Read, W: Write>(
     alloc: Global,

@@ -71,11 +71,6 @@ fn member_of(alloc: Global, matches: &ArgMatches<'_>) -> Result<Member, Fault>
 }
 
 /// The names that the words stand for, each once.
-///
-/// # Errors
-///
-/// For the first word that is refused, [`Fault::Text`] or [`Fault::TooManyNames`];
-/// [`Fault::Memory`] where memory ran out.
 fn names_of(alloc: Global, words: &[&str]) -> Result<LocalNames, Fault>
     ensures named { IfOk result (λ names. AddsEach (map (λ w. w.now) words.now) names) }
     ensures fault { IfErr result (IsNamesFault (map (λ w. w.now) words.now)) }

@@ -43,8 +43,7 @@ pub fn run_save<R: Read, W: Write>(
     Ok(saver.dropped)
 }
 
-/// A member without names that may hold so much, after the lines of an input of so many bytes at
-/// most.
+/// A member without names that may hold so much, after an input of so many bytes at most.
 fn saver_after<R: Read>(
     alloc: Global,
     capacity: Capacity,
@@ -96,8 +95,7 @@ impl LineTaker for Saver {
     }
 }
 
-/// Has the member take a payload of port 138, or set its clock, and counts the keys that this
-/// drops; all else is passed over.
+/// Has the member take a payload of port 138, or set its clock, and counts the keys that it drops.
 fn take_value(said: &Line, member: &mut Member, dropped: &mut u64) -> Result<(), Fault>
     ensures took { OnOk result (TakesSaid member.old (Some said.now) member.new) }
     ensures stops { IfErr result (SaidStops member.old (Some said.now)) }

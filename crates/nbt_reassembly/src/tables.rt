@@ -22,11 +22,6 @@ use std::alloc::Global;
 use std::io::{Read, Write};
 
 /// The whole input.
-///
-/// # Errors
-///
-/// [`Fault::Read`] where it couldn't be read to its end, or has more bytes than an input may have;
-/// [`Fault::Memory`] where memory ran out.
 pub fn whole_input<R: Read>(alloc: Global, input: &mut Counted<R>) -> Result<Vec<u8>, Fault>
     ensures read { IfOk result (λ bytes. Consumes (R.remaining input.old.inner)
         (R.remaining input.new.inner) bytes.items) }
@@ -60,12 +55,6 @@ pub fn count_lines(text: &[u8]) -> usize
 }
 
 /// The tables that the lines of a text are, in order; each may hold so much.
-///
-/// # Errors
-///
-/// The first that is met, line by line: [`Fault::Line`] for a line that is empty or no hexadecimal,
-/// [`Fault::Load`] for one that is no saved table, or one over the limits; [`Fault::Memory`] where
-/// memory ran out.
 pub fn tables_of(alloc: Global, text: &[u8], capacity: Capacity) -> Result<Vec<Table>, Fault>
     ensures found { IfOk result (λ tables. AreTables capacity text.now tables.items) }
     ensures fault { IfErr result (λ fault. fault ≢ Fault.Memory →
@@ -85,8 +74,7 @@ pub fn tables_of(alloc: Global, text: &[u8], capacity: Capacity) -> Result<Vec<T
     Ok(tables)
 }
 
-/// The first line, without its line feed, and what follows it; `None` where there is no line. The
-/// last one may lack its line feed.
+/// The first line, without its line feed, which it may lack, and what follows it, if there is one.
 fn first_line(text: &[u8]) -> Option<(&[u8], &[u8])>
     ensures found { IfSome result (λ parts. (lines : List (List ℕ)) →
         HasLines parts.1.now lines → HasLines text.now (parts.0.now ∷ lines)) }
@@ -117,28 +105,15 @@ fn table_of(alloc: Global, number: u64, line: &[u8], capacity: Capacity) -> Resu
         Err(DigitsFault::NoMemory) => return Err(Fault::Memory),
         Err(DigitsFault::BadDigits) => return Err(Fault::Line(number)),
     };
-    match load(
-        alloc,
-        bytes.as_slice(),
-        capacity.keys,
-        capacity.per_source,
-        LONGEST,
-    ) {
+    let Capacity { keys, per_source } = capacity;
+    match load(alloc, bytes.as_slice(), keys, per_source, LONGEST) {
         Ok(table) => Ok(table),
         Err(LoadFault::NoMemory) => Err(Fault::Memory),
         Err(fault) => Err(Fault::Load(fault)),
     }
 }
 
-/// The join of the saved tables that an input has, in hexadecimal, a line each; each may hold as
-/// much as `--keys` and `--per-source` say.
-///
-/// # Errors
-///
-/// [`Fault::Read`] where the input couldn't be read to its end; then the first malformed line, as
-/// [`tables_of`] has it; then [`Fault::NoTables`] where there is no line, and, where the tables
-/// have more keys together than one may hold, [`Fault::FullSource`] if they are of one address,
-/// else [`Fault::Full`]. [`Fault::Memory`] where memory ran out.
+/// The join of the tables of an input; each may hold as much as `--keys` and `--per-source` say.
 pub fn joined_input<R: Read>(
     alloc: Global,
     matches: &ArgMatches<'_>,
@@ -166,13 +141,6 @@ pub fn joined_input<R: Read>(
 }
 
 /// Joins the other tables to the first.
-///
-/// # Errors
-///
-/// The first that is met, table by table: [`Fault::TooLong`] where one has a longer datagram than
-/// the first may, [`Fault::FullSource`] where they have more keys of one address together than the
-/// first may hold, [`Fault::Full`] where they have more keys, [`Fault::Memory`] where memory ran
-/// out.
 fn join_tables(first: &mut Table, others: Vec<Table>) -> Result<(), Fault>
     ensures joined { OnOk result (first.new.contents
         ≡ joined_all join first.old.contents (contents_of others.items)) }
@@ -193,10 +161,6 @@ fn join_tables(first: &mut Table, others: Vec<Table>) -> Result<(), Fault>
 }
 
 /// Writes a table as it is saved, in hexadecimal, as a line. No memory is taken.
-///
-/// # Errors
-///
-/// [`Fault::Write`], as [`print`] has it. A front of the line is written then.
 pub fn print_saved<W: Write>(output: &mut Counted<W>, table: &Table) -> Result<(), Fault>
     ensures prints { PrintsText (saved_line table.now.contents)
         (W.contents output.old.inner) (W.contents output.new.inner) result }

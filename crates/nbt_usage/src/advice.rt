@@ -83,8 +83,7 @@ fn refusal_in_any_case<'a>(
     }
 }
 
-/// The refusal with this text: the words alone, or as a program prints them, in a line of its own
-/// or of a report.
+/// The refusal with this text: its words, alone or in a line of a program or of a report.
 fn refusal_said<'a>(refusals: &'a [Refusal], text: &str) -> Option<&'a Refusal>
     ensures known { IfSome result (λ refusal. Contains refusals.now refusal.now) }
     ensures unknown { IfNone result (HasNone text.now refusals.now) }
@@ -103,10 +102,7 @@ fn refusal_said<'a>(refusals: &'a [Refusal], text: &str) -> Option<&'a Refusal>
 /// What a line says of its refusal, as in `nbt: full`, `4 unheard 10.0.0.5:138/0001`,
 /// `2 refused source name: not netbios 3 error 1302` and `refused: truncated, at byte 2`.
 fn reason_of(line: &str) -> &str {
-    let front = match line.rsplit_once(" error ") {
-        Some((front, _)) => front,
-        None => line,
-    };
+    let front = line.rsplit_once(" error ").map_or(line, |(front, _)| front);
     if is_unheard(front) {
         return "unheard";
     }
@@ -114,10 +110,11 @@ fn reason_of(line: &str) -> &str {
         Some((_, reason)) => reason,
         None => front.strip_prefix("refused ").unwrap_or(front),
     };
-    match refused.rsplit_once(": ") {
-        Some((_, reason)) => in_own_words(reason),
-        None => in_own_words(refused),
-    }
+    in_own_words(
+        refused
+            .rsplit_once(": ")
+            .map_or(refused, |(_, reason)| reason),
+    )
 }
 
 /// The program's words where the library has others for the same (`WORDS` of nb_calls).
@@ -129,8 +126,7 @@ fn in_own_words(reason: &str) -> &str {
     }
 }
 
-/// Whether this is the line of a report, or its end, that says of a key that its datagram isn't
-/// heard.
+/// Whether this is what a report says, or its end, of a key whose datagram isn't heard.
 fn is_unheard(line: &str) -> bool {
     match line.split_once("unheard ") {
         Some((number, key)) => is_number(number.trim_end_matches(' ')) && !key.contains(' '),
@@ -143,8 +139,7 @@ fn is_number(text: &str) -> bool {
     text.bytes().all(|byte| byte.is_ascii_digit())
 }
 
-/// Whether this is what the program says of the refusal: its words, and the number after them where
-/// it has one.
+/// Whether this is what is said of the refusal: its words, and its number where it has one.
 fn is_said(refusal: &Refusal, reason: &str) -> bool {
     match reason.strip_prefix(refusal.words) {
         Some("") => true,
@@ -153,8 +148,7 @@ fn is_said(refusal: &Refusal, reason: &str) -> bool {
     }
 }
 
-/// Whether this is the number behind the words of a refusal: ` 4`, `, at byte 4` or `, at byte 4 of
-/// the name`.
+/// Whether this is a refusal's number: ` 4`, `, at byte 4` or `, at byte 4 of the name`.
 fn is_place(text: &str) -> bool {
     let place = text.strip_prefix(", at byte").unwrap_or(text);
     match place.strip_prefix(' ') {

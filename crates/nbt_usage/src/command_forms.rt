@@ -21,13 +21,8 @@ pub enum Argument {
     SomeWords(&'static str, &'static str),
     /// `--keys N`.
     Keys,
-    /// An option that is a decimal number from 1 to `most`, which the help calls by `value`.
-    Number {
-        name: &'static str,
-        value: &'static str,
-        help: &'static str,
-        most: u64,
-    },
+    /// An option that is a decimal number: also what the help calls it by, and the most it may be.
+    Number(&'static str, &'static str, &'static str, u64),
 }
 
 /// A command.
@@ -48,25 +43,15 @@ impl CommandForm {
         self.arguments.iter().all(|argument| {
             matches!(
                 argument,
-                Argument::Flag(_, _) | Argument::Keys | Argument::Number { .. }
+                Argument::Flag(_, _) | Argument::Keys | Argument::Number(_, _, _, _)
             )
         })
     }
 }
 
-const PER_SOURCE: Argument = Argument::Number {
-    name: "per-source",
-    value: "N",
-    help: PER_SOURCE_HELP,
-    most: MOST_KEYS,
-};
+const PER_SOURCE: Argument = Argument::Number("per-source", "N", PER_SOURCE_HELP, MOST_KEYS);
 
-const INPUT_LIMIT: Argument = Argument::Number {
-    name: "input-limit",
-    value: "BYTES",
-    help: INPUT_HELP,
-    most: MOST_INPUT,
-};
+const INPUT_LIMIT: Argument = Argument::Number("input-limit", "BYTES", INPUT_HELP, MOST_INPUT);
 
 const COMMENTS: Argument = Argument::Flag(
     "comments",

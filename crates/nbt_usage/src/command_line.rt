@@ -100,12 +100,7 @@ fn arg_of<'a>(alloc: Global, argument: &Argument) -> Arg<'a>
         Argument::Words(name, help) => words(alloc, *name, *help, 0),
         Argument::SomeWords(name, help) => words(alloc, *name, *help, 1).required(true),
         Argument::Keys => number(alloc, "keys", "N", KEYS_HELP, MOST_KEYS).default_value(KEYS_WORD),
-        Argument::Number {
-            name,
-            value,
-            help,
-            most,
-        } => number(alloc, *name, *value, *help, *most),
+        Argument::Number(name, value, help, most) => number(alloc, *name, *value, *help, *most),
     }
 }
 

@@ -7,8 +7,7 @@ use crate::output::Output;
 use crate::signature::Signature;
 use nbt_command::{Fault, print};
 use std::cell::Cell;
-use std::io;
-use std::io::Write;
+use std::io::{self, Write};
 
 /// Who reads standard error.
 #[derive(Clone, Copy)]

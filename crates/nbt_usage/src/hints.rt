@@ -30,8 +30,8 @@ pub const UNHELPED: &str =
      `show` refuses, and `man nbt` lists all refusals\n";
 
 /// Tells a person what a fault means and what to do then, as a line; of the words of a packet,
-/// where they are matched, which is wrong and what was wanted. Where there is no memory for it, or the
-/// device fails, nothing else changes.
+/// where they are matched, which is wrong and what was wanted. Where there is no memory for it, or
+/// the device fails, nothing else changes.
 pub fn print_hint<E: Write>(
     alloc: Global,
     fault: Fault,
@@ -52,8 +52,7 @@ pub fn print_hint<E: Write>(
     }
 }
 
-/// What is wrong with the words of a packet that the matches have, as a line; none where the fault
-/// isn't of one of these, or there is no memory for it.
+/// What is wrong with the words of a packet that the matches have, as a line, if it can be said.
 fn mistake_in(alloc: Global, fault: Fault, matches: Option<&ArgMatches<'_>>) -> Option<String> {
     let Fault::Build(fault) = fault else {
         return None;
@@ -113,12 +112,14 @@ pub fn print_dropped<E: Write>(dropped: u64, errors: &mut Errors<'_, E>)
     }
 }
 
-/// How a command reads the files that these words give it, of which it refuses the first; an empty
-/// text where they give it none.
+/// How a command reads the files that these words give it, if they give it any.
 fn input_line(alloc: Global, words: &[String]) -> Result<String, NoMemory> {
     let mut line = String::new(alloc);
     if let Some(start) = first_file(words) {
-        push_reading(words, start, end_of(words, start), &mut line)?;
+        let mut behind = words.iter().enumerate().skip(start);
+        let option = behind.find(|(_, word)| word.as_str().starts_with('-'));
+        let end = option.map_or(words.len(), |(place, _)| place);
+        push_reading(words, start..end, &mut line)?;
     }
     Ok(line)
 }
@@ -150,11 +151,7 @@ fn first_file(words: &[String]) -> Option<usize> {
             is_value = false;
         } else {
             let mut alike = words.iter().skip(2).filter(|other| other.as_str() == word);
-            return if alike.count() == 1 {
-                Some(place)
-            } else {
-                None
-            };
+            return (alike.count() == 1).then_some(place);
         }
     }
     None
@@ -162,10 +159,8 @@ fn first_file(words: &[String]) -> Option<usize> {
 
 /// Whether the word behind this option of the command is its value.
 fn takes_value(form: &CommandForm, option: &str) -> Option<bool> {
-    let (option, is_given) = match option.split_once('=') {
-        Some((option, _)) => (option, true),
-        None => (option, false),
-    };
+    let halves = option.split_once('=');
+    let (option, is_given) = halves.map_or((option, false), |(option, _)| (option, true));
     let name = option.strip_prefix("--")?;
     if name.is_empty() {
         return Some(false);
@@ -173,27 +168,14 @@ fn takes_value(form: &CommandForm, option: &str) -> Option<bool> {
     form.arguments.iter().find_map(|argument| match argument {
         Argument::Flag(flag, _) if *flag == name => Some(false),
         Argument::Keys if name == "keys" => Some(!is_given),
-        Argument::Number { name: number, .. } if *number == name => Some(!is_given),
+        Argument::Number(number, _, _, _) if *number == name => Some(!is_given),
         _ => None,
     })
 }
 
-/// The place after the files that begin at this one: files end where an option begins.
-fn end_of(words: &[String], start: usize) -> usize {
-    let mut behind = words.iter().enumerate().skip(start);
-    match behind.find(|(_, word)| word.as_str().starts_with('-')) {
-        Some((place, _)) => place,
-        None => words.len(),
-    }
-}
-
-/// Says how the command reads the files from one place up to another.
-fn push_reading(
-    words: &[String],
-    start: usize,
-    end: usize,
-    line: &mut String,
-) -> Result<(), NoMemory> {
+/// Says how the command reads the files at these places.
+fn push_reading(words: &[String], files: Range<usize>, line: &mut String) -> Result<(), NoMemory> {
+    let Range { start, end } = files;
     let is_one = end.saturating_sub(start) == 1;
     push_words(words, 1..2, "", line)?;
     line.push_str(" reads standard input: ")?;

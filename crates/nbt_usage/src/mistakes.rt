@@ -87,8 +87,7 @@ fn wanted(kind: WordKind) -> &'static str {
     }
 }
 
-/// Ends the line, and before that adds a word that was given, unless it is long or has other bytes
-/// than a terminal shows.
+/// Adds a word that was given, unless it is long or a terminal doesn't show it, and ends the line.
 fn push_given(word: &str, line: &mut String) -> Result<(), NoMemory> {
     if word.len() <= SHORT && word.bytes().all(|byte| byte.is_ascii_graphic()) {
         write!(line, ", and not {word}")?;

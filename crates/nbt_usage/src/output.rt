@@ -3,8 +3,7 @@ ghost use Rattle.std.specs.Prelude.{◌≡◌};
 
 use nb_streams::Counted;
 use nb_streams::output::write_some;
-use std::io;
-use std::io::{ErrorKind, Write};
+use std::io::{self, ErrorKind, Write};
 
 /// A device to write to, whose calls are counted for contracts.
 #[derive(Drop)]
@@ -31,10 +30,7 @@ impl<W: Write> Write for Output<W> {
         if buf.is_empty() {
             return Ok(0);
         }
-        match write_some(&mut self.device, buf) {
-            Ok(count) => Ok(count),
-            Err(_) => Err(io::Error::from(ErrorKind::Other)),
-        }
+        write_some(&mut self.device, buf).map_err(|_| io::Error::from(ErrorKind::Other))
     }
 
     fn flush(&mut self) -> io::Result<()> {

@@ -1,8 +1,7 @@
 //! What an input begins with.
 
 use std::cell::Cell;
-use std::io;
-use std::io::Read;
+use std::io::{self, Read};
 
 /// How many bytes a format is known by.
 const WIDTH: usize = 4;
@@ -39,12 +38,10 @@ impl Signature {
     /// The signature once these bytes were read too.
     fn with(self, read: &[u8]) -> Signature {
         let mut signature = self;
-        for byte in read {
+        for byte in read.iter().take(WIDTH) {
             if signature.held < WIDTH {
                 signature.bytes[signature.held] = *byte;
                 signature.held += 1;
-            } else {
-                break;
             }
         }
         signature

@@ -1,6 +1,6 @@
-use Rattle.nb_building.proofs.Common.{refl, arith}
-use Rattle.nb_building.proofs.ArgumentLemmas.{none_so_small}
+use Rattle.nb_building.proofs.Common.{arith}
+use Rattle.nb_building.proofs.ArgumentLemmas.{narrowed}
 use Rattle.nb_building.proofs.arguments.number.Goals as goal
 
-pub returns-in-Err : goal.returns-in-Err
-returns-in-Err c = (refl, none_so_small _ 65535 _ (omega arith) c.in_ok-long_number.ensures c.in-Err.ensures)
+pub returns : goal.returns
+returns c = narrowed 65535 _ _ _ c.try_from.result c.or.result (omega arith) c.in_ok-long_number.ensures c.try_from.ensures c.or.ensures

@@ -1,4 +1,4 @@
-use Rattle.nb_building.proofs.Common.{◌≡◌, arith, length, refl, error}
+use Rattle.nb_building.proofs.Common.{arith, refl, error}
 use Rattle.nb_building.proofs.ArgumentLemmas.{two_words}
 use Rattle.nb_building.proofs.BuiltLemmas.{datagrams_named}
 use Rattle.nb_building.proofs.TakenLemmas.{memory_passed_on, other_count, refused_at}

@@ -1,4 +1,4 @@
-use Rattle.nb_building.proofs.Common.{inr, ◌≡◌, ◌∙◌, ap, arith, length, refl, fragments, datagram, piece, too_long}
+use Rattle.nb_building.proofs.Common.{inr, ap, arith, length, refl, fragments, datagram, piece, too_long}
 use Rattle.nb_building.proofs.ArgumentLemmas.{five_words}
 use Rattle.nb_building.proofs.BuiltLemmas.{fragments_named, too_much}
 use Rattle.nb_building.proofs.UnnamedLemmas.{one_data}

@@ -1,12 +1,11 @@
-use Rattle.nbt_reassembly.proofs.Common.{◌++◌, List, ap, ◌∙◌, codes, key_cmp, Key, lines_of_keys, line}
-use Rattle.std.specs.FinMap as maps
+use Rattle.nbt_reassembly.proofs.Common.{◌++◌, List, ap, ap₂, map, sym, ◌∙◌, codes, Key, key_cmp_total, key_cmp_exact, entries_are, lines_of_keys}
 use Rattle.nbt_reassembly.proofs.agree.differences_of.Goals as goal
 
-pub returns : goal.returns
-returns c =
+pub loop-key-init : goal.loop-key-init
+loop-key-init c =
     let t = c.args.one.now.contents in
     let u = c.args.other.now.contents in
-    let rest = line (codes "different") ++ lines_of_keys t u (maps.keys (maps.from_entries {R = key_cmp} c.in_ok-keys.keys.entries)) in
-    c.in_ok-push_differences.ensures
-    ∙ ap (λ text. text ++ rest) c.new-lines.ensures.bytes
-    ∙ ap (λ (ks : List Key). line (codes "different") ++ lines_of_keys t u ks) c.in_ok-keys.ensures
+    let held = c.keys-key-items.ensures in
+    let keys = c.into_iter-key-iterator.ensures.into_iter_gives ∙ held.rest ∙ sym (ap (map (λ e. e.0)) (entries_are key_cmp_total key_cmp_exact c.in_ok-keys.keys held.ordered)) ∙ c.in_ok-keys.ensures in
+    let text = c.in_ok-push_str.ensures.bytes ∙ ap (λ front. front ++ codes "different\n") c.new-lines.ensures.bytes in
+    ap₂ (λ front (ks : List Key). front ++ lines_of_keys t u ks) text keys

@@ -1,4 +1,4 @@
-use Rattle.nbt_usage.proofs.Common.{◌≡◌, ◌++◌, take, string_bytes, flat_map}
+use Rattle.nbt_usage.proofs.Common.{◌≡◌, take, string_bytes, flat_map}
 use Rattle.nbt_usage.specs.Refusals.{lines_by}
 use Rattle.nbt_usage.proofs.advice.refusal_lines.Given as goal
 

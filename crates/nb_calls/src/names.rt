@@ -84,7 +84,7 @@ pub(crate) fn spelled_in_place(domain: &DomainName) -> [u8; MAX_SPELLING]
     bytes
 }
 
-/// Fills in the spelling of the name at an offset, and zeros after it; copied where it stands whole.
+/// Fills in the spelling of the name at an offset, and zeros after it.
 pub(crate) fn spell_domain(
     names: &NameReader<'_, '_>,
     at: usize,

@@ -1,6 +1,7 @@
 -- The names that many proofs cite, passed on.
 pub use Rattle.std.proofs.Common.{All, Bool, Bor, Contains, Err, IfErr, IfOk, IsTrue, List, None, Ok, Option, Result, Some, [], ap, append_assoc, arith, drop, eq-eqb, eqb-true, false, get_or, if◌then◌else◌, inl, inr, is_some, length, length-append, map, min, nat_eq, nat_le, nat_lt, option_map, refl, rules, set, slice_index_or, subst, sym, take, tests, true, true≢false, ℕ, ◌%◌, ◌&&◌, ◌*◌, ◌++◌, ◌+◌, ◌-◌, ◌/◌, ◌<◌, ◌==◌, ◌||◌, ◌↔◌, ◌∙◌, ◌∷◌, ◌≡◌, ◌≢◌, ◌≤◌, ◌⊎◌}
-pub use Rattle.nb_calls.specs.Common.{Contents, DONE, DatagramParts, DomainFails, Fault, FaultAt, Fits, Followed, FragmentParts, HasHeader, HasOutline, IsBad, IsFaultOf, IsKey, IsName, IsPacket, IsReadAs, IsRefused, IsText, Key, Limits, LoadFails, LoadFault, MORE, MatchOption, MemberValue, Memory, NAME_TRAILING_BYTES, NO_ROLE, NS, NameAt, NameFault, NetbiosName, Packet, PacketFails, PacketHeader, QueryPacket, Refusal, Refused, ResourceData, ResourceRecord, SECOND, ServiceFault, ServicePacket, TRUNCATED, TableValue, TextFault, are_letters, error_type, find, flat_map, header_value, item_count, join_with_byte, labels_of_name, name_bytes, of_bytes, of_domain, query_type, record_of, saved, slice_split, spelling, type_of}
+pub use Rattle.std.specs.Prelude.{MatchOption}
+pub use Rattle.nb_calls.specs.Common.{Contents, DONE, DatagramParts, DomainFails, Fault, FaultAt, Fits, Followed, FragmentParts, HasHeader, HasOutline, IsBad, IsFaultOf, IsKey, IsName, IsPacket, IsReadAs, IsRefused, IsText, Key, Limits, LoadFails, LoadFault, MORE, MemberValue, Memory, NAME_TRAILING_BYTES, NO_ROLE, NS, NameAt, NameFault, NetbiosName, Packet, PacketFails, PacketHeader, QueryPacket, Refusal, Refused, ResourceData, ResourceRecord, SECOND, ServiceFault, ServicePacket, TRUNCATED, TableValue, TextFault, are_letters, error_type, find, flat_map, header_value, item_count, join_with_byte, labels_of_name, name_bytes, of_bytes, of_domain, query_type, record_of, saved, slice_split, spelling, type_of}
 pub use Rattle.std.specs.List.{list_all, list_any, onto_first, slice_range}
 pub use Rattle.nb_streams.specs.Places.{StandsAt}
 pub use Rattle.std.proofs.lemmas.Bool.{and_parts, cases_Bool, cases_eq, cases_lt, not-false}

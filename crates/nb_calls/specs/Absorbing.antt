@@ -1,5 +1,6 @@
 -- What the call does that joins another station's table to a station's (our choice).
-use Rattle.nb_calls.specs.Common.{◌≡◌, ◌<◌, ◌≤◌, ℕ, List, ◌∷◌, ◌++◌, length, Result, Ok, Err, w16, to_be_bytes, flat_map, DatagramParts, type_of, name_bytes, TableFault, LoadFault, Contents, TableValue, LoadFails, key_bytes, IsRefused, MemberValue, contents, Absorbs, Previews, NO_ROLE}
+use Rattle.std.specs.Prelude.{◌≡◌, ◌<◌, ◌≤◌, ℕ, List, ◌∷◌, ◌++◌, length, Result, Ok, Err}
+use Rattle.nb_calls.specs.Common.{w16, to_be_bytes, flat_map, DatagramParts, type_of, name_bytes, TableFault, LoadFault, Contents, TableValue, LoadFails, key_bytes, IsRefused, MemberValue, contents, Absorbs, Previews, NO_ROLE}
 use Rattle.nb_member.specs.Events.{limits_of}
 use Rattle.nb_calls.specs.Outputs.{Answers, Lent}
 use Rattle.nb_calls.specs.Stations.{table_refusal}

@@ -1,5 +1,6 @@
 -- What the call on a line of a capture answers (our choice).
-use Rattle.nb_calls.specs.Common.{◌≡◌, ℕ, List, [], length, Option, Some, None, Result, Ok, Err, if◌then◌else◌, Tick, LineFault, BLANK, PACKET, TICK}
+use Rattle.std.specs.Prelude.{◌≡◌, ℕ, List, [], length, Option, Some, None, Result, Ok, Err, if◌then◌else◌}
+use Rattle.nb_calls.specs.Common.{Tick, LineFault, BLANK, PACKET, TICK}
 use Rattle.nb_capture.specs.Capture.{HasValue, SaysNothing, IsMalformed, NeedsMemory}
 use Rattle.nb_capture.specs.declared.line.Line.{Line}
 use Rattle.nb_capture.specs.declared.line.Line.TheVariants.{Packet}

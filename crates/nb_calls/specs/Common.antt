@@ -57,4 +57,3 @@ pub use Rattle.nb_text.specs.SaysPacket.{IsSaid}
 pub use Rattle.nb_text.specs.Shown.{Shown}
 pub use Rattle.std.specs.Int.{from_be_bytes, to_be_bytes, w16, w32}
 pub use Rattle.std.specs.List.{find, flat_map, join_with_byte, slice_get, slice_split}
-pub use Rattle.std.specs.Prelude.{All, Bool, Contains, Err, IfErr, IfOk, IsTrue, List, MatchBool, MatchOption, MatchResult, None, Ok, OnOk, Option, Result, Some, [], codes, drop, false, if◌then◌else◌, is_some, length, map, min, nat_le, nat_lt, option_map, refl, replicate, take, true, ℕ, ◌%◌, ◌++◌, ◌+◌, ◌-◌, ◌<◌, ◌==◌, ◌^◌, ◌↔◌, ◌∷◌, ◌≡◌, ◌≢◌, ◌≤◌, ◌⊎◌}

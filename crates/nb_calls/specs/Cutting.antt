@@ -1,5 +1,6 @@
 -- What the calls that write packets of port 138 answer (RFC 1002 sections 4.4.2 to 4.4.4).
-use Rattle.nb_calls.specs.Common.{◌==◌, ◌+◌, ◌%◌, ℕ, Bool, nat_lt, min, List, ◌++◌, length, Option, Some, None, Result, Ok, Err, if◌then◌else◌, w16, w32, to_be_bytes, flat_map, TextFault, NetbiosName, Key, Unique, Group, Broadcast, MAX_LENGTH, DIRECT_HEADER_LENGTH, Direct, Error, Query, DatagramParts, FragmentParts, name_bytes, packet_bytes, pieces, Sent, UNKNOWN_TYPE, LONG_DATA, ZERO_PIECE, SOURCE_TEXT, DESTINATION_TEXT, NO_ROLE}
+use Rattle.std.specs.Prelude.{◌==◌, ◌+◌, ◌%◌, ℕ, Bool, nat_lt, min, List, ◌++◌, length, Option, Some, None, Result, Ok, Err, if◌then◌else◌}
+use Rattle.nb_calls.specs.Common.{w16, w32, to_be_bytes, flat_map, TextFault, NetbiosName, Key, Unique, Group, Broadcast, MAX_LENGTH, DIRECT_HEADER_LENGTH, Direct, Error, Query, DatagramParts, FragmentParts, name_bytes, packet_bytes, pieces, Sent, UNKNOWN_TYPE, LONG_DATA, ZERO_PIECE, SOURCE_TEXT, DESTINATION_TEXT, NO_ROLE}
 use Rattle.nb_datagram.specs.declared.key.Kind.{Kind}
 use Rattle.nb_calls.specs.Names.{IsRead}
 use Rattle.nb_calls.specs.Outputs.{OrMemory}

@@ -1,6 +1,7 @@
 -- What the call that reads a payload of port 138 answers (RFC 1002 section 4.4). Places and lengths are in bytes of the
 -- payload.
-use Rattle.nb_calls.specs.Common.{◌≡◌, ℕ, ◌+◌, List, length, Result, Ok, Err, Option, Some, None, w32, from_be_bytes, DatagramFault, Key, HEADER_LENGTH, DIRECT_HEADER_LENGTH, ErrorPacket, Direct, Error, Query, FragmentParts, error_type, query_type, type_of, Packet, QueryPacket, IsPacket, name_bytes, NetbiosName, FragmentFront, Front, HasFront, LacksHeader, TRUNCATED}
+use Rattle.std.specs.Prelude.{◌≡◌, ℕ, ◌+◌, List, length, Result, Ok, Err, Option, Some, None}
+use Rattle.nb_calls.specs.Common.{w32, from_be_bytes, DatagramFault, Key, HEADER_LENGTH, DIRECT_HEADER_LENGTH, ErrorPacket, Direct, Error, Query, FragmentParts, error_type, query_type, type_of, Packet, QueryPacket, IsPacket, name_bytes, NetbiosName, FragmentFront, Front, HasFront, LacksHeader, TRUNCATED}
 use Rattle.nb_datagram.specs.DatagramFaults.{PacketFails}
 use Rattle.nb_calls.specs.declared.datagrams.NbtDatagram.{NbtDatagram}
 use Rattle.nb_calls.specs.Statuses.{Refusal, datagram_refusal, FaultAt}

@@ -1,5 +1,6 @@
 -- The pointers behind which stations stand (our choice): none stands behind null.
-use Rattle.nb_calls.specs.Common.{◌≡◌, Bool, MatchBool, refl, MemberValue}
+use Rattle.std.specs.Prelude.{◌≡◌, Bool, MatchBool, refl}
+use Rattle.nb_calls.specs.Common.{MemberValue}
 use denote.RawPtr.{Ptr, null_ptr, InBlock}
 use Rattle.nb_calls.specs.declared.handle.Kept.{Kept}
 use Rattle.std.specs.Coded.{Coded, code_by}

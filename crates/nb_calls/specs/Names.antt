@@ -1,5 +1,6 @@
 -- What the calls on names answer (RFC 1001 section 14.1, RFC 1002 section 4.1).
-use Rattle.nb_calls.specs.Common.{◌≡◌, ◌⊎◌, ◌<◌, ℕ, List, ◌++◌, length, drop, replicate, Result, Ok, Err, NameFault, MAX_SPELLING, Refused, TextFault, spelling, NameAt, NetbiosName, IsName, labels_of_name, IsText, IsFaultOf, written, NAME_TRAILING_BYTES, NO_ROLE}
+use Rattle.std.specs.Prelude.{◌≡◌, ◌⊎◌, ◌<◌, ℕ, List, ◌++◌, length, drop, replicate, Result, Ok, Err}
+use Rattle.nb_calls.specs.Common.{NameFault, MAX_SPELLING, Refused, TextFault, spelling, NameAt, NetbiosName, IsName, labels_of_name, IsText, IsFaultOf, written, NAME_TRAILING_BYTES, NO_ROLE}
 use Rattle.nb_names.specs.NameFaults.{NetbiosFaultAt}
 use Rattle.nb_calls.specs.Outputs.{OrMemory}
 use Rattle.nb_calls.specs.Statuses.{Refusal, FaultAt, text_refusal, name_refusal}

@@ -1,6 +1,7 @@
 -- What a call does to what its caller lends it (our choice): the front of a buffer, how many bytes it has or wants, and
 -- the place of a fault.
-use Rattle.nb_calls.specs.Common.{◌≡◌, ◌≢◌, ◌⊎◌, ℕ, Bool, nat_le, List, ◌++◌, length, drop, Result, Ok, Err, if◌then◌else◌, Refusal, Memory, Fault, FaultAt, DONE, NO_ROOM, NO_MEMORY}
+use Rattle.std.specs.Prelude.{◌≡◌, ◌≢◌, ◌⊎◌, ℕ, Bool, nat_le, List, ◌++◌, length, drop, Result, Ok, Err, if◌then◌else◌}
+use Rattle.nb_calls.specs.Common.{Refusal, Memory, Fault, FaultAt, DONE, NO_ROOM, NO_MEMORY}
 use Rattle.nb_streams.specs.declared.bytes.NoMemory.{NoMemory}
 
 -- whether the bytes fit into a buffer

@@ -1,7 +1,8 @@
 -- What the call that writes responses of port 137 answers: packets with one answer, of class IN, and nothing else (RFC 1002
 -- sections 4.2.5 to 4.2.18, all but 4.2.8 and 4.2.15). RDATA of type NS is a domain name (section 4.2.1.3), here without
 -- pointers; places count from the front of its bytes.
-use Rattle.nb_calls.specs.Common.{◌≡◌, ◌≢◌, ◌<◌, ◌≤◌, ℕ, List, length, Result, Ok, Err, ◌==◌, nat_lt, if◌then◌else◌, NameFault, Refused, TextFault, NameAt, NetbiosName, labels_of_name, IsText, IsFaultOf, NS, MAX_RDATA, ResourceData, ResourceRecord, of_bytes, of_domain, record_of, one_answer, query_packet, status_packet, registration_packet, refresh_packet, release_packet, Answered, LONG_DATA, NAME_TRAILING_BYTES, NO_ROLE, UNKNOWN_REQUEST, w32, to_be_bytes, AddressEntry, ServicePacket, entry_bytes, Asked}
+use Rattle.std.specs.Prelude.{◌≡◌, ◌≢◌, ◌<◌, ◌≤◌, ℕ, List, length, Result, Ok, Err, ◌==◌, nat_lt, if◌then◌else◌}
+use Rattle.nb_calls.specs.Common.{NameFault, Refused, TextFault, NameAt, NetbiosName, labels_of_name, IsText, IsFaultOf, NS, MAX_RDATA, ResourceData, ResourceRecord, of_bytes, of_domain, record_of, one_answer, query_packet, status_packet, registration_packet, refresh_packet, release_packet, Answered, LONG_DATA, NAME_TRAILING_BYTES, NO_ROLE, UNKNOWN_REQUEST, w32, to_be_bytes, AddressEntry, ServicePacket, entry_bytes, Asked}
 use Rattle.nb_names.specs.NameFaults.{FaultAt as NameFaultAt}
 use Rattle.nb_service.specs.declared.classes.TheConstants.{IN}
 use Rattle.nb_service.specs.Encoding.{packet_bytes}

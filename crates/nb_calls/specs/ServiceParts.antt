@@ -1,6 +1,7 @@
 -- What the calls that read the parts of RDATA of port 137 answer (RFC 1002 sections 4.2.1.3, 4.2.13 and 4.2.18), and the call that
 -- reads many items, each with the name that is the RDATA of a record of type NS.
-use Rattle.nb_calls.specs.Common.{◌≡◌, ◌⊎◌, ℕ, ◌+◌, nat_le, List, length, take, Option, Some, None, Result, Ok, Err, if◌then◌else◌, ◌<◌, min, [], ◌∷◌, ◌++◌, drop, w32, from_be_bytes, slice_get, Followed, spelling, NameAt, AddressEntry, ServiceFault, of_bytes, DomainFails, AreEntries, IsStatus, entries_of_data, status_of_data, NS, NbtServiceItem}
+use Rattle.std.specs.Prelude.{◌≡◌, ◌⊎◌, ℕ, ◌+◌, nat_le, List, length, take, Option, Some, None, Result, Ok, Err, if◌then◌else◌, ◌<◌, min, [], ◌∷◌, ◌++◌, drop}
+use Rattle.nb_calls.specs.Common.{w32, from_be_bytes, slice_get, Followed, spelling, NameAt, AddressEntry, ServiceFault, of_bytes, DomainFails, AreEntries, IsStatus, entries_of_data, status_of_data, NS, NbtServiceItem}
 use Rattle.nb_service.specs.declared.views.NodeName.{NodeName}
 use Rattle.nb_service.specs.declared.views.TheConstants.{UNIT_ID_LENGTH}
 use Rattle.nb_calls.specs.declared.service_parts.NbtServiceAddress.{NbtServiceAddress}

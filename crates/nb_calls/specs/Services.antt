@@ -1,6 +1,7 @@
 -- What the calls that read payloads of port 137 answer (RFC 1002 section 4.2.1). Places and lengths are in bytes of the
 -- payload.
-use Rattle.nb_calls.specs.Common.{◌≡◌, ℕ, ◌-◌, ◌<◌, ◌≤◌, List, length, is_some, Option, Some, None, Result, Ok, Err, if◌then◌else◌, spelling, name_of_labels, ServiceFault, Answer, Authority, Additional, PacketHeader, HasHeader, HasOutline, PacketFails, item_count, NbtServiceItem}
+use Rattle.std.specs.Prelude.{◌≡◌, ℕ, ◌-◌, ◌<◌, ◌≤◌, List, length, is_some, Option, Some, None, Result, Ok, Err, if◌then◌else◌}
+use Rattle.nb_calls.specs.Common.{spelling, name_of_labels, ServiceFault, Answer, Authority, Additional, PacketHeader, HasHeader, HasOutline, PacketFails, item_count, NbtServiceItem}
 use Rattle.nb_service.specs.declared.record.Extent.{Extent}
 use Rattle.nb_service.specs.declared.record.Fields.{Fields}
 use Rattle.nb_service.specs.declared.limits.TheConstants.{HEADER_LENGTH}

@@ -1,5 +1,6 @@
 -- What the calls that read packets of port 139 answer (RFC 1002 section 4.3).
-use Rattle.nb_calls.specs.Common.{◌≡◌, ℕ, ◌-◌, List, length, Result, Ok, Err, ◌<◌, ◌≤◌, ◌++◌, w32, from_be_bytes, spelling, NetbiosName, labels_of_name, MAX_MESSAGE, MORE}
+use Rattle.std.specs.Prelude.{◌≡◌, ℕ, ◌-◌, List, length, Result, Ok, Err, ◌<◌, ◌≤◌, ◌++◌}
+use Rattle.nb_calls.specs.Common.{w32, from_be_bytes, spelling, NetbiosName, labels_of_name, MAX_MESSAGE, MORE}
 use Rattle.nb_session.specs.declared.limits.TheConstants.{HEADER_LENGTH}
 use Rattle.nb_session.specs.declared.packet.Packet.TheVariants.{Message, Request, Positive, Negative, Retarget, Keepalive}
 use Rattle.nb_session.specs.declared.parsing.Parsed.TheVariants.{Whole, More, Refused}

@@ -1,5 +1,6 @@
 -- What the calls on a payload's text, its phrase and its object answer.
-use Rattle.nb_calls.specs.Common.{◌≡◌, ℕ, List, Result, Ok, Err, IsSaid, Shown, Refusal, Memory}
+use Rattle.std.specs.Prelude.{◌≡◌, ℕ, List, Result, Ok, Err}
+use Rattle.nb_calls.specs.Common.{IsSaid, Shown, Refusal, Memory}
 use Rattle.nb_text.specs.Tells.{IsObject}
 
 -- Made Is answer: a value is answered of which this holds, or memory ran out

@@ -1,5 +1,6 @@
 -- What the calls on a station do (RFC 1002 section 5.3; the form of what is written is our choice).
-use Rattle.nb_calls.specs.Common.{◌≡◌, ◌==◌, ◌⊎◌, ◌<◌, ◌≤◌, ◌+◌, ℕ, Bool, List, [], ◌∷◌, ◌++◌, length, drop, Contains, Option, Some, None, Result, Ok, Err, w32, from_be_bytes, slice_split, TextFault, NetbiosName, DatagramFault, Key, ErrorPacket, Error, DatagramParts, type_of, name_bytes, packet_bytes, TableFault, MemberValue, contents, with_timed, after_clock, Takes}
+use Rattle.std.specs.Prelude.{◌≡◌, ◌==◌, ◌⊎◌, ◌<◌, ◌≤◌, ◌+◌, ℕ, Bool, List, [], ◌∷◌, ◌++◌, length, drop, Contains, Option, Some, None, Result, Ok, Err}
+use Rattle.nb_calls.specs.Common.{w32, from_be_bytes, slice_split, TextFault, NetbiosName, DatagramFault, Key, ErrorPacket, Error, DatagramParts, type_of, name_bytes, packet_bytes, TableFault, MemberValue, contents, with_timed, after_clock, Takes}
 use Rattle.nb_names.specs.declared.fault.TextFault.TheVariants as texts
 use Rattle.nb_table.specs.declared.fault.TableFault.TheVariants as tables
 use Rattle.nb_member.specs.declared.limits.TheConstants.{MAX_NAMES}

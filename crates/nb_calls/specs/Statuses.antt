@@ -1,5 +1,6 @@
 -- The status of each fault, the place that goes with it, and its words (our choice).
-use Rattle.nb_calls.specs.Common.{ℕ, ◌+◌, ◌==◌, List, [], ◌∷◌, ◌++◌, map, Option, Some, None, Result, Ok, Err, codes, option_map, NameFault, TextFault, LoadFault, DatagramFault, ServiceFault, LineFault, find}
+use Rattle.std.specs.Prelude.{ℕ, ◌+◌, ◌==◌, List, [], ◌∷◌, ◌++◌, map, Option, Some, None, Result, Ok, Err, codes, option_map}
+use Rattle.nb_calls.specs.Common.{NameFault, TextFault, LoadFault, DatagramFault, ServiceFault, LineFault, find}
 use Rattle.nb_names.specs.declared.fault.NameFault.TheVariants as names
 use Rattle.nb_names.specs.declared.fault.TextFault.TheVariants as texts
 use Rattle.nb_entries.specs.declared.saved.LoadFault.TheVariants as loads

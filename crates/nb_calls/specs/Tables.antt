@@ -1,5 +1,6 @@
 -- What the calls on saved tables answer (our choice).
-use Rattle.nb_calls.specs.Common.{◌≡◌, ℕ, Bool, true, false, List, Result, Ok, Err, [], ◌∷◌, Option, Some, None, LoadFault, TableFault, Contents, Limits, TableValue, KeepsLimits, IsReadAs, LoadFails, saved, Fits, IsRefused, listing, w32, from_be_bytes, Key}
+use Rattle.std.specs.Prelude.{◌≡◌, ℕ, Bool, true, false, List, Result, Ok, Err, [], ◌∷◌, Option, Some, None}
+use Rattle.nb_calls.specs.Common.{LoadFault, TableFault, Contents, Limits, TableValue, KeepsLimits, IsReadAs, LoadFails, saved, Fits, IsRefused, listing, w32, from_be_bytes, Key}
 use Rattle.nb_table.specs.Join.{join}
 use Rattle.nb_member.specs.ListingFields.{listed_objects}
 use Rattle.nb_calls.specs.declared.statuses.TheConstants as statuses

@@ -1,5 +1,5 @@
 //! Tables of other stations, taken in by a station.
-ghost use Rattle.nb_calls.specs.Common.{◌≡◌, ◌++◌, IfOk, OnOk, Ok};
+ghost use Rattle.std.specs.Prelude.{◌≡◌, ◌++◌, IfOk, OnOk, Ok};
 ghost use Rattle.nb_calls.specs.Absorbing.{Absorbed, Hears, Joined, all_heard, heard_bytes};
 
 use crate::output::{Refusal, answer_of, load_refusal, table_refusal};

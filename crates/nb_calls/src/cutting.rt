@@ -1,5 +1,6 @@
 //! Packets of the datagram service, written: datagrams cut into pieces, and packets without data.
-ghost use Rattle.nb_calls.specs.Common.{◌≡◌, ◌≤◌, length, IfOk, flat_map, MAX_LENGTH};
+ghost use Rattle.std.specs.Prelude.{◌≡◌, ◌≤◌, length, IfOk};
+ghost use Rattle.nb_calls.specs.Common.{flat_map, MAX_LENGTH};
 ghost use Rattle.nb_calls.specs.Cutting.{are_long, cut_names, datagram_of, key_from, packet_of, packets_of, counted, error_packet, query_answer};
 ghost use Rattle.nb_calls.specs.Outputs.{OrMemory};
 

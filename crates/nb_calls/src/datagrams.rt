@@ -1,5 +1,6 @@
 //! Packets of the datagram service, read, and what stands at the front of others.
-ghost use Rattle.nb_calls.specs.Common.{◌≡◌, ◌≤◌, length, MAX_SPELLING, name_bytes};
+ghost use Rattle.std.specs.Prelude.{◌≡◌, ◌≤◌, length};
+ghost use Rattle.nb_calls.specs.Common.{MAX_SPELLING, name_bytes};
 ghost use Rattle.nb_calls.specs.Datagrams.{Reads, places_of, header_places, fragment_places, ReadsFront, numbers, place_if, spelled_length};
 
 use crate::output::{Refusal, datagram_refusal};

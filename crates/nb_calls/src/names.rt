@@ -1,5 +1,6 @@
 //! Names: as texts, as spellings, and spelled out in place.
-ghost use Rattle.nb_calls.specs.Common.{◌≡◌, IfOk, ◌≤◌, ℕ, List, length, written, IsBad, MAX_SPELLING, Followed, NameAt, IsSkipped};
+ghost use Rattle.std.specs.Prelude.{◌≡◌, IfOk, ◌≤◌, ℕ, List, length};
+ghost use Rattle.nb_calls.specs.Common.{written, IsBad, MAX_SPELLING, Followed, NameAt, IsSkipped};
 ghost use Rattle.std.specs.Str.{IsValidUpTo};
 ghost use Rattle.nb_calls.specs.Names.{Tells, spelling_answer, IsRead, in_place, spelled_in_place};
 ghost use Rattle.nb_calls.specs.Outputs.{OrMemory};

@@ -1,5 +1,6 @@
 //! Requests and responses of the name service, written.
-ghost use Rattle.nb_calls.specs.Common.{◌≡◌, IfOk, MatchResult, Result, Ok, Err, entry_bytes, ResourceData};
+ghost use Rattle.std.specs.Prelude.{◌≡◌, IfOk, MatchResult, Result, Ok, Err};
+ghost use Rattle.nb_calls.specs.Common.{entry_bytes, ResourceData};
 ghost use Rattle.nb_service.specs.Encoding.{packet_bytes};
 ghost use Rattle.nb_calls.specs.Outputs.{OrMemory};
 ghost use Rattle.nb_calls.specs.Responses.{entry_of, request_answer, requested, IsDomain, IsRdata, Responds, answer_of, response_answer, response_of};

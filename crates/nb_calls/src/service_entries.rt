@@ -1,5 +1,6 @@
 //! Questions and records of the name service, many by one call, with the names in their RDATA.
-ghost use Rattle.nb_calls.specs.Common.{◌<◌, ◌^◌, length, HasHeader, header_value};
+ghost use Rattle.std.specs.Prelude.{◌<◌, ◌^◌, length};
+ghost use Rattle.nb_calls.specs.Common.{HasHeader, header_value};
 ghost use Rattle.nb_calls.specs.ServiceParts.{FilledFront, ReadsEntries, ReadsEntry, ReadsServer, IsEntry, room_of, spelled_answer};
 
 use crate::names::spelled_in_place;

@@ -1,5 +1,6 @@
 //! Payloads of the name service, read.
-ghost use Rattle.nb_calls.specs.Common.{◌≡◌, ◌≤◌, ◌++◌, ℕ, List, Followed, spelling, are_letters, IsSkipped, HasHeader, header_value};
+ghost use Rattle.std.specs.Prelude.{◌≡◌, ◌≤◌, ◌++◌, ℕ, List};
+ghost use Rattle.nb_calls.specs.Common.{Followed, spelling, are_letters, IsSkipped, HasHeader, header_value};
 ghost use Rattle.nb_calls.specs.Outputs.{FilledIn, Fills};
 ghost use Rattle.nb_calls.specs.Services.{ReadsHeader, ReadsItem, ReadsPacket, header_numbers, netbios_number, numbers, section_number};
 

@@ -1,5 +1,6 @@
 //! Packets of the session service: read, taken apart and written.
-ghost use Rattle.nb_calls.specs.Common.{◌≡◌, ◌≤◌, length, IfOk, MAX_MESSAGE};
+ghost use Rattle.std.specs.Prelude.{◌≡◌, ◌≤◌, length, IfOk};
+ghost use Rattle.nb_calls.specs.Common.{MAX_MESSAGE};
 ghost use Rattle.nb_calls.specs.Sessions.{Reads, ReadsFront, ReadsNames, ReadsRetarget, Stands, WritesPacket, frame};
 
 use crate::names::spelled_in_place;

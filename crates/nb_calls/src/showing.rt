@@ -1,5 +1,6 @@
 //! The texts of packets, their phrases and JSON objects, and the lines of captures.
-ghost use Rattle.nb_calls.specs.Common.{IfOk, ◌≡◌, Ok, IsSaid, Shown};
+ghost use Rattle.std.specs.Prelude.{IfOk, ◌≡◌, Ok};
+ghost use Rattle.nb_calls.specs.Common.{IsSaid, Shown};
 ghost use Rattle.nb_calls.specs.Outputs.{Answers, of_memory, lent};
 ghost use Rattle.nb_calls.specs.Captures.{WritesLine, line_answer, line_lent};
 

@@ -1,5 +1,6 @@
 //! Stations: made of names, shown the clock, saved, listed and given back.
-ghost use Rattle.nb_calls.specs.Common.{◌≡◌, ◌+◌, ◌<◌, ◌++◌, ◌∷◌, Contains, MatchOption, length, w32, to_be_bytes, slice_split, new_member};
+ghost use Rattle.std.specs.Prelude.{◌≡◌, ◌+◌, ◌<◌, ◌++◌, ◌∷◌, Contains, MatchOption, length};
+ghost use Rattle.nb_calls.specs.Common.{w32, to_be_bytes, slice_split, new_member};
 ghost use Rattle.nb_calls.specs.Stations.{IsCreated, Names, NamesText, is_space, texts_in};
 
 use crate::handle::{Kept, Parts, hide, pointer_of};

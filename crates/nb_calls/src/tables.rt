@@ -1,5 +1,6 @@
 //! Saved tables: joined, listed and compared.
-ghost use Rattle.nb_calls.specs.Common.{◌≡◌, IfOk, IfErr, LoadFails, listing};
+ghost use Rattle.std.specs.Prelude.{◌≡◌, IfOk, IfErr};
+ghost use Rattle.nb_calls.specs.Common.{LoadFails, listing};
 ghost use Rattle.std.specs.FinMap as maps;
 ghost use Rattle.nb_calls.specs.Tables.{Joins, Merges, OfOne, listed_as, Compares, IsLeastDifference, Narrows, NarrowsBy, difference_of, limits_with, lower_of, IsLoaded};
 

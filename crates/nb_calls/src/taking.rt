@@ -1,5 +1,6 @@
 //! Payloads that a station takes, and what becomes of each.
-ghost use Rattle.nb_calls.specs.Common.{◌≤◌, length, ◌≡◌, ◌++◌, TAKE_ROOM, packet_bytes, Error};
+ghost use Rattle.std.specs.Prelude.{◌≤◌, length, ◌≡◌, ◌++◌};
+ghost use Rattle.nb_calls.specs.Common.{TAKE_ROOM, packet_bytes, Error};
 ghost use Rattle.nb_calls.specs.Stations.{Fronted, Took, lent_for, told_of, told_refused, delivered_bytes, error_bytes};
 
 use crate::output::{datagram_refusal, refuse, status_of, table_refusal};

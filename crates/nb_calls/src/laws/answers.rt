@@ -1,6 +1,7 @@
 //! Laws on what calls answer: one thing of each input, but for that memory ran out. Each is proved;
 //! a call does nothing.
-ghost use Rattle.nb_calls.specs.Common.{ℕ, List, Key, Contents, Limits, Sent, Answered, Asked};
+ghost use Rattle.std.specs.Prelude.{ℕ, List};
+ghost use Rattle.nb_calls.specs.Common.{Key, Contents, Limits, Sent, Answered, Asked};
 ghost use Rattle.nb_calls.specs.Captures.{SaysLine};
 ghost use Rattle.nb_calls.specs.Cutting.{Cuts, Queries};
 ghost use Rattle.nb_calls.specs.Datagrams.{Reads, ReadsFront};

@@ -34,8 +34,9 @@ RUST_NUMBERS = {'status': ('', 'u32'), 'line_kind': ('', 'u32'), 'request': ('',
 
 
 def sentence(said):
-    """What is said of a member, as one line of Rust's."""
-    said = re.sub(r'NBT_([A-Z_]+)', lambda name: f'[`Status::{camel(name[1])}`]', said).replace('*at', 'the place')
+    """What is said of a member, as one line of Rust's. A limit is no status."""
+    said = re.sub(r'NBT_MOST_[A-Z_]+', lambda limit: f'`{limit[0]}`', said)
+    said = re.sub(r'(?<!`)NBT_([A-Z_]+)', lambda name: f'[`Status::{camel(name[1])}`]', said).replace('*at', 'the place')
     return said[:1].upper() + said[1:] + '.' * (not said.endswith('.'))
 
 

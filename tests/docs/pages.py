@@ -4,7 +4,7 @@
 Usage: tests/docs/pages.py, whose last line is 'N passed, M failed'; --write writes the pages that are made of the sources anew
 (made_pages.py), --wrong-bodies prints what the files of must-fail/ and wrong-bodies/ say. A case is
 
-- a file, a folder, or a name of the sources in backticks, on a page;
+- a file, a folder, or a name of the sources in backticks, on a page; a file of tools/ or tests/ that the Makefile runs;
 - a call in a row of docs/PROMISES.md, which is there, and each clause of such a row, which is one of its calls';
 - a public call, and a public definition, which has a comment; a line of docs/CALLS.md, DEFINITIONS.md and LAWS.md, which the sources say;
 - a file of wrong-bodies/, which says what is wrong, why and where it is refused, and whose old lines stand once in the file that it changes;
@@ -158,6 +158,13 @@ def named_bodies():
         yield it in stated & there, f'PROOFS.md has the named wrong body {it}' if it in there else f'{it}, a named wrong body, is there'
 
 
+def commands():
+    """Whether each file is there that the Makefile runs."""
+    makefile = (ROOT / 'Makefile').read_text(encoding='utf-8')
+    for it in sorted(set(re.findall(r'(?<![\w./-])(?:tools|tests)/[\w./-]*\w', makefile))):
+        yield f'/{it}' in tracked(), f'the Makefile runs {it}'
+
+
 def costs():
     """Whether the table of costs in docs/PROOFS.md has each crate, in order, and no other."""
     text = (ROOT / 'docs' / 'PROOFS.md').read_text(encoding='utf-8')
@@ -227,7 +234,7 @@ def main(word=''):
         for path, said, _ in edits():
             print(f'{path.parts[0]}/{path.stem}: {said["what"]}\n    {said["why"]}')
         return
-    checks = (places, names, promises, commented, wrong_bodies, named_bodies, computing, costs, sizes, made_lines, rust_samples, build_words)
+    checks = (places, commands, names, promises, commented, wrong_bodies, named_bodies, computing, costs, sizes, made_lines, rust_samples, build_words)
     tally((case, not is_right) for check in checks for is_right, case in check())
 
 

@@ -1,0 +1,4 @@
+mod ByteLemmas
+mod RunsLemmas
+mod PartLemmas
+mod OrderLemmas

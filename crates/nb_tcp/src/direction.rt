@@ -1,0 +1,205 @@
+//! One direction of a connection.
+ghost use Rattle.std.specs.Prelude.{◌≡◌, ◌≤◌, ◌<◌, ◌+◌, ◌%◌, ◌^◌, ◌⊎◌, [], ℕ, List, length, min, max, IsTrue, false, IfSome, OnOk, None};
+ghost use Rattle.nb_tcp.specs.Order.{Segment, placed, is_keep_alive};
+ghost use Rattle.nb_tcp.specs.Kept.{Orders};
+ghost use Rattle.nb_tcp.specs.Runs.{charge_of};
+ghost use Rattle.nb_tcp.specs.Takes.{Takes, HandsOn, WaitsAt};
+ghost use Rattle.nb_tcp.specs.declared.limits.TheConstants.{START, LAST, ROOM, TAIL};
+
+use crate::comparing::contradicts;
+use crate::forgetting::forget;
+use crate::handing;
+use crate::limits::{LAST, START};
+use crate::places::place_of;
+use crate::putting::put;
+use crate::runs::Runs;
+use crate::taken::Taken;
+use nb_streams::NoMemory;
+use std::alloc::Global;
+use std::marker::Model;
+
+/// One direction of a TCP connection: the bytes that came and weren't handed on, and the last of
+/// those that were.
+#[derive(Drop)]
+pub struct Direction {
+    /// The sequence number of the byte whose place is `START`.
+    first: u32,
+    /// The place up to which all was handed on or passed over.
+    handed: u64,
+    /// The place from which on all that came is known.
+    known: u64,
+    /// The greatest place after a number of the segments.
+    reach: u64,
+    runs: Runs,
+}
+
+impl Model for Direction {
+    ghost use Rattle.nb_tcp.specs.Kept.{Kept, IsKept};
+
+    ghost Value = { Kept };
+
+    ghost view = { λ d. record {
+      first = d.first;
+      handed = d.handed;
+      known = d.known;
+      reach = d.reach;
+      runs = d.runs;
+    } };
+
+    ghost invariant = { λ d. IsKept (record {
+      first = d.first;
+      handed = d.handed;
+      known = d.known;
+      reach = d.reach;
+      runs = d.runs;
+    }) };
+}
+
+impl Direction {
+    /// A direction whose first byte has this sequence number: the number after that of its SYN, or
+    /// that of the first segment where no SYN came. No memory is taken.
+    pub fn new(alloc: Global, first: u32) -> Direction
+        ensures first { result.first ≡ first }
+        ensures orders { Orders START result [] [] }
+    {
+        Direction {
+            first,
+            handed: START,
+            known: START,
+            reach: 0,
+            runs: Runs::new(alloc),
+        }
+    }
+
+    /// Takes a SYN with this sequence number. That with which the direction began changes nothing;
+    /// with another one it begins anew, and what it kept is dropped. Answers whether it began anew.
+    pub fn synchronize(&mut self, alloc: Global, sequence: u32) -> bool
+        ensures same { result ≡ false → self.new ≡ self.old }
+        ensures begun { result ≡ false → self.old.first ≡ (sequence + 1) % 2 ^ 32 }
+        ensures anew { IsTrue result → Orders START self.new [] [] }
+        ensures first { self.new.first ≡ (sequence + 1) % 2 ^ 32 }
+    {
+        let first = sequence.wrapping_add(1);
+        if first == self.first {
+            return false;
+        }
+        *self = Direction::new(alloc, first);
+        true
+    }
+
+    /// Takes a segment: its sequence number, the bytes of its payload that are captured, and how
+    /// many numbers it takes on the wire, one for each byte and one for a FIN (SEG.LEN of RFC 9293
+    /// section 3.4). Of a segment with a SYN the number is that after it.
+    ///
+    /// What is kept is as much as there is room and memory for, from the front on. A byte that came
+    /// before stays as it was.
+    pub fn take(&mut self, alloc: Global, sequence: u32, payload: &[u8], on_wire: u32) -> Taken
+        ensures takes { Takes self.old sequence payload.now on_wire self.new result }
+        ensures room { charge_of self.new.runs ≤ ROOM }
+        ensures handed { self.new.handed ≡ self.old.handed }
+        ensures known { self.new.known ≡ self.old.known }
+        ensures first { self.new.first ≡ self.old.first }
+    {
+        let place = place_of(self.first, self.handed, sequence);
+        let numbers = u64::from(on_wire).max(payload.len() as u64);
+        let keeps_alive = only_keeps_alive(self.reach, place, numbers);
+        self.reach = self.reach.max(place + numbers);
+        if keeps_alive {
+            return Taken {
+                place,
+                count: payload.len(),
+                differs: false,
+                refusal: None,
+            };
+        }
+        let behind = ((self.known.max(place) - place) as usize).min(payload.len());
+        let at = place + behind as u64;
+        let rest = &payload[behind..];
+        let differs = contradicts(&self.runs, at, rest);
+        let (count, refusal) = put(&mut self.runs, alloc, at, rest);
+        Taken {
+            place,
+            count: behind + count,
+            differs,
+            refusal,
+        }
+    }
+
+    /// Hands on the bytes that are next in order: appends them.
+    ///
+    /// # Errors
+    ///
+    /// [`NoMemory`] where memory ran out; those that were appended are handed on.
+    pub fn hand_on(&mut self, to: &mut Vec<u8>) -> Result<(), NoMemory>
+        ensures hands_on { HandsOn self.old to.old.items self.new to.new.items }
+        ensures all { OnOk result ((from : ℕ) (segments : List Segment) (out : List ℕ) →
+            Orders from self.new segments out → placed segments self.new.handed ≡ None) }
+        ensures room { charge_of self.new.runs ≤ charge_of self.old.runs }
+        ensures known { (self.new.known ≡ self.old.known) ⊎ (TAIL < charge_of self.old.runs) }
+        ensures first { self.new.first ≡ self.old.first }
+    {
+        let handed = handing::hand_on(&self.runs, &mut self.handed, to);
+        self.known = forget(&mut self.runs, self.known, self.handed);
+        handed
+    }
+
+    /// The place of the first byte that waits for others, where the next one in order is missing.
+    pub fn waiting_at(&self) -> Option<u64>
+        ensures some { IfSome result (WaitsAt self.now) }
+        ensures none { result ≡ None → (from : ℕ) (segments : List Segment) (out : List ℕ) →
+            Orders from self.now segments out → placed segments self.now.handed ≡ None →
+            (i : ℕ) → self.now.handed ≤ i → placed segments i ≡ None }
+    {
+        self.runs.next_after(self.handed)
+    }
+
+    /// Goes on at a place, without the bytes before it that weren't handed on. What was handed on
+    /// isn't handed on again: a place before its end changes nothing.
+    pub fn resume(&mut self, place: u64)
+        ensures anew { (from : ℕ) (segments : List Segment) (out : List ℕ) →
+            Orders from self.old segments out → Orders self.new.handed self.new segments [] }
+        ensures place { self.new.handed ≡ max self.old.handed (min place LAST) }
+        ensures room { charge_of self.new.runs ≤ charge_of self.old.runs }
+        ensures known { (self.new.known ≡ self.old.known) ⊎ (TAIL < charge_of self.old.runs) }
+        ensures first { self.new.first ≡ self.old.first }
+    {
+        self.handed = self.handed.max(place.min(LAST));
+        self.known = forget(&mut self.runs, self.known, self.handed);
+    }
+
+    /// The place up to which all was handed on, or passed over.
+    pub fn handed(&self) -> u64
+        ensures value { result ≡ self.now.handed }
+        ensures last { result ≤ LAST }
+    {
+        self.handed
+    }
+
+    /// The place from which on it is noticed that a byte comes again with another value.
+    pub fn known(&self) -> u64
+        ensures value { result ≡ self.now.known }
+        ensures last { result ≤ self.now.handed }
+    {
+        self.known
+    }
+
+    /// How much it keeps, in bytes: those of its runs, and `RUN_COST` for each run.
+    pub fn kept(&self) -> usize
+        ensures value { result ≡ charge_of self.now.runs }
+        ensures room { result ≤ ROOM }
+    {
+        self.runs.charge()
+    }
+}
+
+/// Whether a segment of so many numbers is a keep-alive, where those before it reach to a place.
+fn only_keeps_alive(reach: u64, place: u64, numbers: u64) -> bool
+    requires { place + numbers < 2 ^ 64 }
+    ensures { result
+        ≡ is_keep_alive reach (record { place = place; bytes = []; numbers = numbers }) }
+{
+    if numbers > 1 {
+        return false;
+    }
+    place + numbers <= reach
+}

@@ -69,7 +69,7 @@ pub reads_on : (old new : FileValue) (before left : Option (List ℕ)) (counts l
     → ReadsFrame old before left counts later r new → ReadsOn old before left counts later x new
 reads_on old new before left counts later r x is same p =
     subst (λ (y : Result (Option Numbered) FileFault). ReadsOn old before left counts later y new) same
-    (subst (λ (s : Standing). ReadsFrom s old before left counts later r new) is p)
+    (subst (λ (s : Standing). ReadsFrom s old before left counts later r new) is p.0)
 
 -- all that came is parts and the rest
 came_spelled : (file new : FileValue) (got came rest : List ℕ) (frames found : List FrameValue) → Spells Beginning got frames file.context file.room.rest

@@ -1,26 +1,41 @@
-//! Packets of IPv4.
+//! Packets of IP, and of IPv4.
 ghost use Rattle.std.specs.Prelude.{◌≡◌, ◌≤◌, length};
-ghost use Rattle.nb_frames.specs.Ipv4.{header_4, wire_4, place_4, Ipv4};
+ghost use Rattle.nb_frames.specs.Carried.{ip_in};
+ghost use Rattle.nb_frames.specs.Ipv4.{header_4, wire_4, place_4, ipv4};
 
-use crate::carried::Hosts;
+use crate::carried::{Hosts, IpPacket, Place};
 use crate::fields::{octets, word};
-use crate::ip_packet::{IpPacket, Place};
+use crate::ipv6_reading::read_ipv6;
 use crate::payload::Payload;
-use crate::reason::{Reason, judge};
+use crate::reason::Reason;
 use std::net::{IpAddr, Ipv4Addr};
 
-/// What is read of a packet of which the first twenty bytes are there (RFC 791 section 3.1).
-pub(crate) fn read_ipv4<'a>(packet: &'a [u8]) -> Result<IpPacket<'a>, Reason>
+/// What is read of a packet, by the version that it says.
+pub(crate) fn read_ip<'a>(packet: &'a [u8]) -> Result<IpPacket<'a>, Reason>
+    ensures { result ≡ ip_in packet.now }
+{
+    if packet.len() < 20 {
+        return Err(Reason::Cut);
+    }
+    match packet[0] / 16 {
+        4 => read_ipv4(packet),
+        6 => read_ipv6(packet),
+        _ => Err(Reason::Bad),
+    }
+}
+
+/// What is read of a packet of IPv4 of which the first twenty bytes are there (RFC 791 section 3.1).
+fn read_ipv4<'a>(packet: &'a [u8]) -> Result<IpPacket<'a>, Reason>
     requires { 20 ≤ length packet.now }
-    ensures { Ipv4 packet.now result }
+    ensures { result ≡ ipv4 packet.now }
 {
     let header = header_len(packet);
-    if header < 20 {
+    let wire = wire_len(packet);
+    if header < 20 || wire < header {
         return Err(Reason::Bad);
     }
-    let wire = wire_len(packet);
-    if let Err(reason) = judge(wire, packet.len(), header, header) {
-        return Err(reason);
+    if packet.len() < header {
+        return Err(Reason::Cut);
     }
     Ok(IpPacket {
         hosts: Hosts {

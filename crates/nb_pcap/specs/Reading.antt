@@ -37,6 +37,7 @@ pub record IsFileRoom (room : RoomValue) (place frames : ℕ) (standing : Standi
   pub counted : frames ≤ place
   pub below : place ≤ room.taken
   pub place_is : standing ≡ Reading → place + length room.rest ≡ room.taken
+  pub near : standing ≡ Reading → length room.rest ≤ MAX_READ
   pub given : (standing ≡ Reading → ⊥) → last ≡ None
 
 -- a frame, and its number in the file, the first being 1
@@ -72,7 +73,7 @@ abbrev pub Finds : FileValue → List ℕ → Option (List ℕ) → Counts → C
 Finds old got left counts later (Ok (Some found)) new =
     Spells old.context (old.room.rest ++ got) (found.frame ∷ []) new.context new.room.rest
     × (found.number ≡ old.frames + 1) × (new.frames ≡ old.frames + 1) × (new.standing ≡ Reading)
-    × (length old.room.rest ≤ MAX_READ → length new.room.rest ≤ MAX_READ)
+    × (length new.room.rest ≤ MAX_READ)
     × (new.place + length new.room.rest ≡ old.place + length (old.room.rest ++ got)) × (found.number < 2 ^ 64)
 Finds old got left counts later (Ok None) new =
     Spells old.context (old.room.rest ++ got) [] new.context [] × IsAtEnd left × (new.context ≡ Beginning → ⊥)

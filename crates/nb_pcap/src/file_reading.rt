@@ -45,6 +45,7 @@ fn find_frame<R: Read>(
 ) -> Result<Option<Head>, FileFault>
     requires place_is { place.old + length room.old.rest ≡ room.old.taken }
     requires within { room.old.taken ≤ room.old.most }
+    requires near { length room.old.rest ≤ MAX_READ }
     ensures { SeeksFrame context.old place.old room.old (R.remaining reader.old.inner)
         (R.remaining reader.new.inner) reader.old.counts reader.new.counts result context.new
         place.new room.new }
@@ -52,11 +53,11 @@ fn find_frame<R: Read>(
     'parts: loop {
         room.let_go();
         match take_part(alloc, room, context, reader) {
-            Ok(Part::Frame(head, _)) => {
+            Ok(Part::Frame(head)) => {
                 *place = room.place();
                 return Ok(Some(head));
             }
-            Ok(Part::Other(_)) => *place = room.place(),
+            Ok(Part::Other) => *place = room.place(),
             Ok(Part::End) => return Ok(None),
             Err(fault) => return Err(fault),
         }

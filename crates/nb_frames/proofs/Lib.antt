@@ -1,7 +1,4 @@
-mod OptionLemmas
-mod TagsLemmas
-mod InternetLemmas
-mod TransportLemmas
-mod UniquenessLemmas
-mod ExistenceLemmas
+mod AnswerLemmas
+mod HeaderLemmas
 mod LayoutLemmas
+mod TagsLemmas

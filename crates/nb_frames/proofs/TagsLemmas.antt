@@ -1,24 +1,41 @@
 -- A type and the tags before it: what one turn of a loop along the tags adds.
-use Rattle.std.proofs.Common.{◌≡◌, ◌≢◌, ℕ, zero, suc, ◌+◌, ◌-◌, ◌%◌, ◌<◌, ◌≤◌, ◌&&◌, Bool, true, false, List, [], ◌∷◌, ◌++◌, length, Result, refl, ap, sym, subst, ◌∙◌, append_assoc, append-nil, arith, nat_le}
+use Rattle.std.proofs.Common.{◌≡◌, ◌≢◌, ℕ, zero, suc, ◌+◌, ◌-◌, ◌%◌, ◌<◌, ◌≤◌, ◌&&◌, Bool, true, false, List, [], ◌∷◌, ◌++◌, length, Result, Err, refl, ap, sym, ◌∙◌, append_assoc, append-nil, arith, nat_le, nat_lt}
 use Rattle.std.proofs.lemmas.Bool.Decides.{nat_tests}
 use Rattle.nb_frames.specs.declared.reason.Reason.{Reason}
+use Rattle.nb_frames.specs.declared.reason.Reason.TheVariants.{Cut, TooManyTags}
 use Rattle.nb_frames.specs.Fields.{word_at}
-use Rattle.nb_frames.specs.Tags.{is_tag, follows, TypeAt, typed, tagged, vlans_at}
+use Rattle.nb_frames.specs.Tags.{is_tag, follows, network_at, vlans_at}
 
 -- ---- what follows
 
-pub type_found : (frame : List ℕ) (most at next kind : ℕ) (network : Result ℕ Reason) → next ≤ length frame → kind ≡ word_at frame at
-    → is_tag kind ≡ false → network ≡ follows frame kind next → TypeAt frame most at next network
-type_found frame most at next kind network fits is none same =
-    subst (λ (r : Result ℕ Reason). TypeAt frame most at next r) (sym (same ∙ ap (λ (k : ℕ). follows frame k next) is))
-    (typed fits (ap is_tag (sym is) ∙ none))
+pub before : (m n : ℕ) → m < n → nat_lt m n ≡ true
+before m n less = grind (arith, nat_tests)
 
-pub tag_passed : (frame : List ℕ) (most at next kind : ℕ) (network : Result ℕ Reason) → most ≢ 0 → next ≤ length frame
-    → kind ≡ word_at frame at → is_tag kind ≡ true → TypeAt frame (most - 1) (next + 2) (next + 4) network → TypeAt frame most at next network
-tag_passed frame zero at next kind network some fits is tag there = absurd (some refl)
-tag_passed frame (suc most) at next kind network some fits is tag there =
+pub not_before : (m n : ℕ) → n ≤ m → nat_lt m n ≡ false
+not_before m n most = grind (arith, nat_tests)
+
+pub cut_there : (frame : List ℕ) (most at next : ℕ) → length frame < next → network_at most frame at next ≡ Err Cut
+unfolding network_at
+cut_there frame zero at next cut = rw (before (length frame) next cut) refl
+cut_there frame (suc most) at next cut = rw (before (length frame) next cut) refl
+
+pub type_there : (frame : List ℕ) (most at next : ℕ) → next ≤ length frame → is_tag (word_at frame at) ≡ false
+    → network_at most frame at next ≡ follows frame (word_at frame at) next
+unfolding network_at
+type_there frame zero at next fits none = rw (not_before (length frame) next fits, none) refl
+type_there frame (suc most) at next fits none = rw (not_before (length frame) next fits, none) refl
+
+pub tag_there : (frame : List ℕ) (at next : ℕ) → next ≤ length frame → is_tag (word_at frame at) ≡ true → network_at 0 frame at next ≡ Err TooManyTags
+unfolding network_at
+tag_there frame at next fits tag = rw (not_before (length frame) next fits, tag) refl
+
+pub tag_passed : (frame : List ℕ) (most at next : ℕ) → most ≢ 0 → next ≤ length frame → is_tag (word_at frame at) ≡ true
+    → network_at most frame at next ≡ network_at (most - 1) frame (next + 2) (next + 4)
+unfolding network_at
+tag_passed frame zero at next some fits tag = absurd (some refl)
+tag_passed frame (suc most) at next some fits tag =
     let one : suc most - 1 ≡ most = omega arith in
-    tagged fits (ap is_tag (sym is) ∙ tag) (subst (λ (m : ℕ). TypeAt frame m (next + 2) (next + 4) network) one there)
+    rw (one, not_before (length frame) next fits, tag) refl
 
 -- ---- identifiers of VLANs
 

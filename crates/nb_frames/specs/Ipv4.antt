@@ -3,14 +3,13 @@
 --   at 9  protocol 1 · at 12  source 4 · at 16  destination 4 · at 20  options
 --
 -- Checksums aren't judged.
-use Rattle.std.specs.Prelude.{ℕ, ◌*◌, ◌%◌, ◌<◌, ◌≤◌, ◌==◌, nat_le, List, length, Option, Some, None, Result, Ok, Err, if◌then◌else◌}
+use Rattle.std.specs.Prelude.{ℕ, ◌*◌, ◌%◌, ◌==◌, ◌||◌, nat_le, nat_lt, List, length, Option, Some, None, Result, Ok, Err, if◌then◌else◌}
 use Rattle.std.specs.declared.net.ip_addr.IpAddr.TheVariants.{V4}
-use Rattle.nb_frames.specs.declared.ip_packet.IpPacket.{IpPacket}
-use Rattle.nb_frames.specs.declared.ip_packet.Place.{Place}
+use Rattle.nb_frames.specs.declared.carried.IpPacket.{IpPacket}
+use Rattle.nb_frames.specs.declared.carried.Place.{Place}
 use Rattle.nb_frames.specs.declared.reason.Reason.{Reason}
-use Rattle.nb_frames.specs.declared.reason.Reason.TheVariants.{Bad}
+use Rattle.nb_frames.specs.declared.reason.Reason.TheVariants.{Bad, Cut}
 use Rattle.nb_frames.specs.Fields.{byte_at, word_at, bytes_at}
-use Rattle.nb_frames.specs.Lacking.{Lacks}
 use Rattle.nb_frames.specs.Payload.{rest_after}
 
 -- how many bytes the header has: its length counts words of four bytes
@@ -45,9 +44,9 @@ packet_4 packet = record {
   body = rest_after packet (wire_4 packet) (header_4 packet);
 }
 
--- Ipv4 packet answer: what is read of a packet of which the first twenty bytes are there
-pub data Ipv4 (packet : List ℕ) : Result IpPacket Reason → Type 0 where
-  short : header_4 packet < 20 → Ipv4 packet (Err Bad)
-  lacks : (reason : Reason) → 20 ≤ header_4 packet
-      → Lacks (wire_4 packet) (length packet) (header_4 packet) (header_4 packet) reason → Ipv4 packet (Err reason)
-  whole : 20 ≤ header_4 packet → header_4 packet ≤ wire_4 packet → header_4 packet ≤ length packet → Ipv4 packet (Ok (packet_4 packet))
+-- what is read of a packet of which the first twenty bytes are there
+abbrev pub ipv4 : List ℕ → Result IpPacket Reason
+ipv4 packet =
+    (if nat_lt (header_4 packet) 20 || nat_lt (wire_4 packet) (header_4 packet) then Err Bad
+    else (if nat_lt (length packet) (header_4 packet) then Err Cut
+    else Ok (packet_4 packet)))

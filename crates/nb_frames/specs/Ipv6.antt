@@ -2,16 +2,15 @@
 --   at 0  version, traffic class and flow label 4 · at 4  payload length 2 · at 6  next header 1 · at 8  source 16
 --   at 24  destination 16
 -- An extension header begins with the number of the next header, and most have their length after it.
-use Rattle.std.specs.Prelude.{◌≡◌, ℕ, ◌+◌, ◌*◌, ◌/◌, ◌%◌, ◌<◌, ◌≤◌, ◌==◌, ◌||◌, ◌&&◌, nat_le, Bool, true, false, List, length, Option, Some, None, Result, Ok, Err, if◌then◌else◌}
+use Rattle.std.specs.Prelude.{ℕ, zero, suc, ◌+◌, ◌*◌, ◌/◌, ◌%◌, ◌==◌, ◌||◌, ◌&&◌, nat_le, nat_lt, Bool, List, length, Option, Some, None, Result, Ok, Err, if◌then◌else◌}
 use Rattle.std.specs.Net.Addr.{segments_of}
 use Rattle.std.specs.declared.net.ip_addr.IpAddr.TheVariants.{V6}
-use Rattle.nb_frames.specs.declared.ip_packet.IpPacket.{IpPacket}
-use Rattle.nb_frames.specs.declared.ip_packet.Place.{Place}
+use Rattle.nb_frames.specs.declared.carried.IpPacket.{IpPacket}
+use Rattle.nb_frames.specs.declared.carried.Place.{Place}
 use Rattle.nb_frames.specs.declared.ipv6_reading.Upper.{Upper}
 use Rattle.nb_frames.specs.declared.reason.Reason.{Reason}
-use Rattle.nb_frames.specs.declared.reason.Reason.TheVariants.{Cut}
+use Rattle.nb_frames.specs.declared.reason.Reason.TheVariants.{Bad, Cut}
 use Rattle.nb_frames.specs.Fields.{byte_at, word_at, long_at, bytes_at}
-use Rattle.nb_frames.specs.Lacking.{Lacks}
 use Rattle.nb_frames.specs.Payload.{rest_after}
 
 -- whether a number is that of an extension header: hop-by-hop options, routing, fragment, authentication (RFC 4302) or
@@ -43,26 +42,31 @@ place_6 packet number at =
     })
     else None)
 
--- Leads packet wire number at answer: in a packet that had `wire` bytes on the wire the header of this number begins at `at`, and the
--- extension headers from there on lead to this
-pub data Leads (packet : List ℕ) (wire : ℕ) : ℕ → ℕ → Result Upper Reason → Type 0 where
-  ends : {number at : ℕ} → is_extension number ≡ false
-      → Leads packet wire number at (Ok (record { protocol = number; at = at; place = None }))
-  lacks : {number at : ℕ} (reason : Reason) → is_extension number ≡ true
-      → Lacks wire (length packet) (at + extent packet number at) (at + extent packet number at) reason
-      → Leads packet wire number at (Err reason)
-  fragment : {number at : ℕ} (place : Place) → is_extension number ≡ true
-      → at + extent packet number at ≤ wire → at + extent packet number at ≤ length packet
-      → place_6 packet number at ≡ Some place
-      → Leads packet wire number at (Ok (record { protocol = byte_at packet at; at = at + extent packet number at; place = Some place }))
-  passes : {number at : ℕ} {answer : Result Upper Reason} → is_extension number ≡ true
-      → at + extent packet number at ≤ wire → at + extent packet number at ≤ length packet
-      → place_6 packet number at ≡ None
-      → Leads packet wire (byte_at packet at) (at + extent packet number at) answer → Leads packet wire number at answer
+-- where a fragment's header leads, which is of this place, and where the headers after another one do, which is of none
+abbrev pub placed : Option Place → ℕ → ℕ → Result Upper Reason → Result Upper Reason
+placed (Some place) protocol at further = Ok (record { protocol = protocol; at = at; place = Some place })
+placed None protocol at further = further
 
--- the packet that these extension headers lead to
-abbrev pub packet_6 : List ℕ → Upper → IpPacket
-packet_6 packet upper = record {
+-- leads_within fuel packet wire number at: the same as `leads`, where so many extension headers are looked at
+abbrev pub leads_within : ℕ → List ℕ → ℕ → ℕ → ℕ → Result Upper Reason
+leads_within zero packet wire number at = Err Cut
+leads_within (suc fuel) packet wire number at =
+    (if is_extension number then
+    (if nat_lt wire (at + extent packet number at) then Err Bad
+    else (if nat_lt (length packet) (at + extent packet number at) then Err Cut
+    else placed (place_6 packet number at) (byte_at packet at) (at + extent packet number at)
+    (leads_within fuel packet wire (byte_at packet at) (at + extent packet number at))))
+    else Ok (record { protocol = number; at = at; place = None }))
+
+-- leads packet wire number at: where the extension headers lead, in a packet that had `wire` bytes on the wire, from the header of
+-- this number on, which begins at `at`. There are no more of them than bytes
+abbrev pub leads : List ℕ → ℕ → ℕ → ℕ → Result Upper Reason
+leads packet wire number at = leads_within (suc (length packet)) packet wire number at
+
+-- the packet whose extension headers lead there
+abbrev pub packet_6 : List ℕ → Result Upper Reason → Result IpPacket Reason
+packet_6 packet (Err reason) = Err reason
+packet_6 packet (Ok upper) = Ok (record {
   hosts = record {
     source = V6 (record { segments = segments_of (bytes_at 16 packet 8) });
     destination = V6 (record { segments = segments_of (bytes_at 16 packet 24) });
@@ -70,11 +74,10 @@ packet_6 packet upper = record {
   protocol = upper.protocol;
   place = upper.place;
   body = rest_after packet (wire_6 packet) upper.at;
-}
+})
 
--- Ipv6 packet answer: what is read of a packet
-pub data Ipv6 (packet : List ℕ) : Result IpPacket Reason → Type 0 where
-  short : length packet < 40 → Ipv6 packet (Err Cut)
-  fails : (reason : Reason) → 40 ≤ length packet → Leads packet (wire_6 packet) (byte_at packet 6) 40 (Err reason) → Ipv6 packet (Err reason)
-  whole : (upper : Upper) → 40 ≤ length packet → Leads packet (wire_6 packet) (byte_at packet 6) 40 (Ok upper)
-      → Ipv6 packet (Ok (packet_6 packet upper))
+-- what is read of a packet
+abbrev pub ipv6 : List ℕ → Result IpPacket Reason
+ipv6 packet =
+    (if nat_lt (length packet) 40 then Err Cut
+    else packet_6 packet (leads packet (wire_6 packet) (byte_at packet 6) 40))

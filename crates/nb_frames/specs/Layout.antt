@@ -6,17 +6,38 @@ use Rattle.nb_frames.specs.declared.carried.Carried.TheVariants.{Udp}
 use Rattle.nb_frames.specs.declared.contents.Contents.{Contents}
 use Rattle.nb_frames.specs.Payload.{whole}
 
+-- six bytes, and four
+pub record Six : Type 0 where
+  pub a : ℕ
+  pub b : ℕ
+  pub c : ℕ
+  pub d : ℕ
+  pub e : ℕ
+  pub f : ℕ
+
+pub record Four : Type 0 where
+  pub a : ℕ
+  pub b : ℕ
+  pub c : ℕ
+  pub d : ℕ
+
+abbrev pub six : Six → List ℕ
+six x = x.a ∷ x.b ∷ x.c ∷ x.d ∷ x.e ∷ x.f ∷ []
+
+abbrev pub four : Four → List ℕ
+four x = x.a ∷ x.b ∷ x.c ∷ x.d ∷ []
+
 -- what is written in a frame of Ethernet that has one tag, a packet of IPv4, a datagram of UDP, and padding
 pub record TaggedDatagram : Type 0 where
-  pub receiver : List ℕ
-  pub sender : List ℕ
+  pub receiver : Six
+  pub sender : Six
   pub control : ℕ
   pub service : ℕ
   pub identification : ℕ
   pub lifetime : ℕ
   pub checksum : ℕ
-  pub source : List ℕ
-  pub destination : List ℕ
+  pub source : Four
+  pub destination : Four
   pub options : List ℕ
   pub source_port : ℕ
   pub destination_port : ℕ
@@ -35,20 +56,16 @@ abbrev pub ipv4_bytes : TaggedDatagram → List ℕ
 ipv4_bytes f =
     (64 + (5 + length f.options / 4)) ∷ f.service ∷ (to_be_bytes w16 (20 + length f.options + length (udp_bytes f))
     ++ (to_be_bytes w16 f.identification ++ (to_be_bytes w16 0x4000 ++ (f.lifetime ∷ 17 ∷ (to_be_bytes w16 f.checksum
-    ++ (f.source ++ (f.destination ++ (f.options ++ udp_bytes f))))))))
+    ++ (four f.source ++ (four f.destination ++ (f.options ++ udp_bytes f))))))))
 
 -- its bytes: receiver, sender, a tag of 802.1Q, the type of IPv4, the packet, padding
 abbrev pub frame_bytes : TaggedDatagram → List ℕ
 frame_bytes f =
-    f.receiver ++ (f.sender ++ (to_be_bytes w16 0x8100 ++ (to_be_bytes w16 f.control ++ (to_be_bytes w16 0x0800 ++ (ipv4_bytes f ++ f.padding)))))
+    six f.receiver ++ (six f.sender ++ (to_be_bytes w16 0x8100 ++ (to_be_bytes w16 f.control ++ (to_be_bytes w16 0x0800 ++ (ipv4_bytes f ++ f.padding)))))
 
 -- each part has its length, and each number fits its field
 pub record IsLaidOut (f : TaggedDatagram) : Type 0 where
-  pub receiver : length f.receiver ≡ 6
-  pub sender : length f.sender ≡ 6
   pub control : f.control < 2 ^ 16
-  pub source : length f.source ≡ 4
-  pub destination : length f.destination ≡ 4
   pub words : ℕ
   pub options : length f.options ≡ 4 * words
   pub few : words ≤ 10
@@ -59,11 +76,11 @@ pub record IsLaidOut (f : TaggedDatagram) : Type 0 where
 -- what it has: of the payload neither options nor padding
 abbrev pub contents_written : TaggedDatagram → Contents
 contents_written f = record {
-  sender = Some (record { octets = f.sender });
-  receiver = Some (record { octets = f.receiver });
+  sender = Some (record { octets = six f.sender });
+  receiver = Some (record { octets = six f.receiver });
   vlans = record { items = f.control % 2 ^ 12 ∷ [] };
   carried = Udp (record {
-    hosts = record { source = V4 (record { octets = f.source }); destination = V4 (record { octets = f.destination }) };
+    hosts = record { source = V4 (record { octets = four f.source }); destination = V4 (record { octets = four f.destination }) };
     ports = record { source = f.source_port; destination = f.destination_port };
     payload = whole f.payload;
   });

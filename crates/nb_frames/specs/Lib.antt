@@ -1,15 +1,11 @@
 pub mod Fields
 pub mod Payload
-pub mod Lacking
 pub mod Tags
 pub mod Link
 pub mod Ipv4
 pub mod Ipv6
-pub mod Ip
-pub mod Udp
-pub mod Tcp
+pub mod Transport
 pub mod Carried
-pub mod Joined
 pub mod Contents
 pub mod Services
 pub mod Layout

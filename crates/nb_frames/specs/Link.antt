@@ -4,7 +4,7 @@
 --   Linux cooked, version 2: type 2, reserved 2, interface 4, kind of address 2, kind 1, length 1, the sender's address 8
 --   raw IP: nothing
 --   loopback: the family of addresses 4, in either byte order
-use Rattle.std.specs.Prelude.{◌≡◌, ℕ, ◌+◌, ◌<◌, ◌≤◌, ◌==◌, ◌||◌, ◌&&◌, nat_le, Bool, true, false, List, [], length, Option, Some, None, Result, Ok, Err, if◌then◌else◌}
+use Rattle.std.specs.Prelude.{ℕ, ◌+◌, ◌==◌, ◌||◌, ◌&&◌, nat_le, nat_lt, Bool, List, [], length, Option, Some, None, Result, Ok, Err, if◌then◌else◌}
 use Rattle.nb_frames.specs.declared.limits.TheConstants.{MAX_TAGS}
 use Rattle.nb_frames.specs.declared.link.Link.{Link}
 use Rattle.nb_frames.specs.declared.link.Link.TheVariants.{Ethernet, Cooked, CookedV2, Raw, Loopback, Unknown}
@@ -12,7 +12,7 @@ use Rattle.nb_frames.specs.declared.contents.Mac.{Mac}
 use Rattle.nb_frames.specs.declared.reason.Reason.{Reason}
 use Rattle.nb_frames.specs.declared.reason.Reason.TheVariants.{NoIp, UnknownLink, Cut}
 use Rattle.nb_frames.specs.Fields.{byte_at, word_at, bytes_at}
-use Rattle.nb_frames.specs.Tags.{TypeAt, vlans_at}
+use Rattle.nb_frames.specs.Tags.{network_at, vlans_at}
 
 -- the link layer of a link type
 abbrev pub link_of : ℕ → Link
@@ -34,16 +34,18 @@ has_family frame =
     (is_family (byte_at frame 0) && byte_at frame 1 == 0 && word_at frame 2 == 0)
     || (word_at frame 0 == 0 && byte_at frame 2 == 0 && is_family (byte_at frame 3))
 
--- NetworkAt frame link network: where a packet of IP begins in the frame, or this reason why none is read
-pub data NetworkAt (frame : List ℕ) : Link → Result ℕ Reason → Type 0 where
-  ethernet : {network : Result ℕ Reason} → TypeAt frame MAX_TAGS 12 14 network → NetworkAt frame Ethernet network
-  cooked : {network : Result ℕ Reason} → TypeAt frame MAX_TAGS 14 16 network → NetworkAt frame Cooked network
-  cooked_v2 : {network : Result ℕ Reason} → TypeAt frame MAX_TAGS 0 20 network → NetworkAt frame CookedV2 network
-  raw : NetworkAt frame Raw (Ok 0)
-  no_room : length frame < 4 → NetworkAt frame Loopback (Err Cut)
-  family : 4 ≤ length frame → has_family frame ≡ true → NetworkAt frame Loopback (Ok 4)
-  no_family : 4 ≤ length frame → has_family frame ≡ false → NetworkAt frame Loopback (Err NoIp)
-  unknown : NetworkAt frame Unknown (Err UnknownLink)
+-- where a packet of IP begins after a family of addresses
+abbrev pub after_family : List ℕ → Result ℕ Reason
+after_family frame = (if nat_lt (length frame) 4 then Err Cut else (if has_family frame then Ok 4 else Err NoIp))
+
+-- where a packet of IP begins in the frame, or why none is read
+abbrev pub network_of : Link → List ℕ → Result ℕ Reason
+network_of Ethernet frame = network_at MAX_TAGS frame 12 14
+network_of Cooked frame = network_at MAX_TAGS frame 14 16
+network_of CookedV2 frame = network_at MAX_TAGS frame 0 20
+network_of Raw frame = Ok 0
+network_of Loopback frame = after_family frame
+network_of Unknown frame = Err UnknownLink
 
 -- the address of six bytes at a place, where they are there
 abbrev pub mac_at : List ℕ → ℕ → Option Mac

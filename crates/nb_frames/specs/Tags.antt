@@ -1,6 +1,6 @@
 -- Types of what follows a link layer, and tags of VLANs before it (IEEE 802.1Q, 802.1ad). A tag is a type of its own, two bytes with
 -- the VLAN's identifier in the lowest twelve bits, and the type of what follows.
-use Rattle.std.specs.Prelude.{◌≡◌, ℕ, zero, suc, ◌+◌, ◌%◌, ◌<◌, ◌≤◌, ◌==◌, ◌||◌, ◌&&◌, nat_lt, nat_le, Bool, true, false, List, [], ◌∷◌, length, Result, Ok, Err, if◌then◌else◌}
+use Rattle.std.specs.Prelude.{ℕ, zero, suc, ◌+◌, ◌%◌, ◌==◌, ◌||◌, ◌&&◌, nat_lt, nat_le, Bool, List, [], ◌∷◌, length, Result, Ok, Err, if◌then◌else◌}
 use Rattle.nb_frames.specs.declared.reason.Reason.{Reason}
 use Rattle.nb_frames.specs.declared.reason.Reason.TheVariants.{NoIp, PppOverEthernet, Mpls, Llc, TooManyTags, Cut}
 use Rattle.nb_frames.specs.Fields.{word_at}
@@ -30,17 +30,18 @@ follows frame kind next =
     else (if nat_lt kind 0x0600 && is_llc_with_ip frame next then Err Llc
     else Err NoIp))))
 
--- TypeAt frame most at next network: a type stands at `at`, what it is of begins at `next`, and this follows after at most so many tags
-pub data TypeAt (frame : List ℕ) : ℕ → ℕ → ℕ → Result ℕ Reason → Type 0 where
-  cut : {most at next : ℕ} → length frame < next → TypeAt frame most at next (Err Cut)
-  typed : {most at next : ℕ} → next ≤ length frame → is_tag (word_at frame at) ≡ false
-      → TypeAt frame most at next (follows frame (word_at frame at) next)
-  too_many : {at next : ℕ} → next ≤ length frame → is_tag (word_at frame at) ≡ true → TypeAt frame zero at next (Err TooManyTags)
-  tagged : {most at next : ℕ} {network : Result ℕ Reason} → next ≤ length frame → is_tag (word_at frame at) ≡ true
-      → TypeAt frame most (next + 2) (next + 4) network → TypeAt frame (suc most) at next network
+-- network_at most frame at next: what follows after at most so many tags, where a type stands at `at`, and what it is of begins at `next`
+unfoldable pub network_at : ℕ → List ℕ → ℕ → ℕ → Result ℕ Reason
+network_at zero frame at next =
+    (if nat_lt (length frame) next then Err Cut
+    else (if is_tag (word_at frame at) then Err TooManyTags
+    else follows frame (word_at frame at) next))
+network_at (suc most) frame at next =
+    (if nat_lt (length frame) next then Err Cut
+    else (if is_tag (word_at frame at) then network_at most frame (next + 2) (next + 4)
+    else follows frame (word_at frame at) next))
 
--- vlans_at most frame at next: the identifiers in the tags, the outermost first, at most so many: a type stands at `at`, and what it
--- is of begins at `next`
+-- vlans_at most frame at next: the identifiers in these tags, the outermost first
 unfoldable pub vlans_at : ℕ → List ℕ → ℕ → ℕ → List ℕ
 vlans_at zero frame at next = []
 vlans_at (suc most) frame at next =

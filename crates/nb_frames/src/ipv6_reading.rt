@@ -1,12 +1,11 @@
 //! Packets of IPv6.
 ghost use Rattle.std.specs.Prelude.{◌≡◌, ◌+◌, ◌≤◌, length, IfOk};
-ghost use Rattle.nb_frames.specs.Ipv6.{is_extension, extent, wire_6, place_6, Leads, Ipv6};
+ghost use Rattle.nb_frames.specs.Ipv6.{is_extension, extent, wire_6, place_6, leads, ipv6};
 
-use crate::carried::Hosts;
+use crate::carried::{Hosts, IpPacket, Place};
 use crate::fields::{long, octets, word};
-use crate::ip_packet::{IpPacket, Place};
 use crate::payload::Payload;
-use crate::reason::{Reason, judge};
+use crate::reason::Reason;
 use std::net::{IpAddr, Ipv6Addr};
 
 /// Where the extension headers of a packet lead.
@@ -22,16 +21,13 @@ pub(crate) struct Upper {
 
 /// What is read of a packet (RFC 8200 section 3).
 pub(crate) fn read_ipv6<'a>(packet: &'a [u8]) -> Result<IpPacket<'a>, Reason>
-    ensures { Ipv6 packet.now result }
+    ensures { result ≡ ipv6 packet.now }
 {
     if packet.len() < 40 {
         return Err(Reason::Cut);
     }
     let wire = wire_len(packet);
-    let upper = match upper_of(packet, wire, packet[6], 40) {
-        Ok(upper) => upper,
-        Err(reason) => return Err(reason),
-    };
+    let upper = upper_of(packet, wire, packet[6], 40)?;
     Ok(IpPacket {
         hosts: Hosts {
             source: IpAddr::V6(Ipv6Addr::from_octets(octets(packet, 8))),
@@ -67,20 +63,22 @@ pub(crate) fn upper_of(
 ) -> Result<Upper, Reason>
     requires there { at ≤ length packet.now }
     requires within { at ≤ wire }
-    ensures leads { Leads packet.now wire number at result }
+    ensures leads { result ≡ leads packet.now wire number at }
     ensures within { IfOk result (λ upper. upper.at ≤ wire) }
 {
     'headers: while is_extension(number) {
         let end = at + extent(packet, number, at);
-        if let Err(reason) = judge(wire, packet.len(), end, end) {
-            return Err(reason);
+        if wire < end {
+            return Err(Reason::Bad);
         }
-        let place = place_of(packet, number, at);
-        if place.is_some() {
+        if packet.len() < end {
+            return Err(Reason::Cut);
+        }
+        if let Some(place) = place_of(packet, number, at) {
             return Ok(Upper {
                 protocol: packet[at],
                 at: end,
-                place,
+                place: Some(place),
             });
         }
         number = packet[at];
@@ -108,10 +106,9 @@ fn extent(packet: &[u8], number: u8, at: usize) -> usize
     ensures value { result ≡ extent packet.now number at }
     ensures some { (8 ≤ result) × (result ≤ 2048) }
 {
-    let length = if at + 1 < packet.len() {
-        packet[at + 1] as usize
-    } else {
-        0
+    let length = match packet.get(at + 1) {
+        Some(length) => *length as usize,
+        None => 0,
     };
     match number {
         44 => 8,

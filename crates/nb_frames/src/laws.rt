@@ -4,29 +4,21 @@ ghost use Rattle.std.specs.Int.{w16, w32};
 ghost use Rattle.nb_streams.specs.Places.{NumberAt, StandsAt};
 ghost use Rattle.nb_frames.specs.Contents.{HasContents};
 ghost use Rattle.nb_frames.specs.Fields.{word_at, long_at, bytes_at};
-ghost use Rattle.nb_frames.specs.Joined.{CarriesJoined};
 ghost use Rattle.nb_frames.specs.Layout.{TaggedDatagram, IsLaidOut, frame_bytes, contents_written};
 ghost use Rattle.nb_frames.specs.Link.{link_of};
-ghost use Rattle.nb_frames.specs.Payload.{PayloadValue};
 ghost use Rattle.nb_frames.specs.Tags.{is_tag, is_ip};
-ghost use Rattle.nb_frames.specs.declared.carried.Carried.{Carried};
-ghost use Rattle.nb_frames.specs.declared.carried.Hosts.{Hosts};
 ghost use Rattle.nb_frames.specs.declared.contents.Contents.{Contents};
 ghost use Rattle.nb_frames.specs.declared.limits.TheConstants.{MAX_TAGS};
 ghost use Rattle.nb_frames.specs.declared.link.Link.TheVariants.{Ethernet, Cooked, CookedV2, Raw, Loopback, Unknown};
 ghost use Rattle.nb_frames.specs.declared.tcp_flags.TheConstants.TcpFlags.{CWR, ECE, URG, ACK, PSH, RST, SYN, FIN};
 
-/// Whatever its link type and its bytes, a frame has one thing, and no other; what fragments make
-/// that are put together carries one thing at most.
+/// Whatever its link type and its bytes, a frame has one thing, and no other.
 pub fn one_answer()
     ensures some { (link_type : ℕ) (frame : List ℕ) →
         (contents : Contents) × HasContents link_type frame contents }
     ensures one { (link_type : ℕ) (frame : List ℕ) (contents other : Contents) →
         HasContents link_type frame contents → HasContents link_type frame other →
         contents ≡ other }
-    ensures joined { (hosts : Hosts) (protocol : ℕ) (body : PayloadValue)
-        (carried other : Carried) → CarriesJoined hosts protocol body carried →
-        CarriesJoined hosts protocol body other → carried ≡ other }
 {}
 
 /// What is written part after part is what is read by places: of a frame of Ethernet with one tag,

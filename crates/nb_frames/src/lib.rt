@@ -5,8 +5,7 @@
 mod carried;
 mod contents;
 mod fields;
-mod ip_packet;
-mod ipv4_reading;
+mod ip_reading;
 mod ipv6_reading;
 pub mod laws;
 pub mod limits;
@@ -18,9 +17,8 @@ mod tags;
 mod tcp_flags;
 mod transport_reading;
 
-pub use carried::{Carried, Hosts, IpFragment, Ports, TcpSegment, UdpDatagram};
+pub use carried::{Carried, Hosts, IpFragment, Place, Ports, TcpSegment, UdpDatagram};
 pub use contents::{Contents, Mac};
-pub use ip_packet::Place;
 pub use payload::Payload;
 pub use reading::{carried_by_joined, contents_of};
 pub use reason::Reason;

@@ -1,12 +1,11 @@
 //! Link layers.
-ghost use Rattle.std.specs.Prelude.{◌≡◌, ◌≤◌, ◌+◌, length, IfOk};
-ghost use Rattle.nb_frames.specs.Link.{link_of, is_family, has_family, NetworkAt, mac_at, sender_of, receiver_of, vlans_of};
+ghost use Rattle.std.specs.Prelude.{◌≡◌, ◌≤◌, [], length};
+ghost use Rattle.nb_frames.specs.Link.{link_of, is_family, has_family, after_family, network_of, mac_at, sender_of, receiver_of, vlans_of};
 
 use crate::contents::Mac;
 use crate::fields::{octets, word};
-use crate::limits::MAX_TAGS;
 use crate::reason::Reason;
-use crate::tags::{TypePlace, network_after, vlans_after};
+use crate::tags::{Layer, TypePlace, layer_after};
 use arrayvec::ArrayVec;
 
 /// Where the type stands of what Ethernet carries.
@@ -50,18 +49,18 @@ impl Link {
         }
     }
 
-    /// Where a packet of IP begins in the frame, or why none is read.
-    pub(crate) fn network(self, frame: &[u8]) -> Result<usize, Reason>
-        ensures network { NetworkAt frame.now self result }
-        ensures within { IfOk result (λ at. at ≤ length frame.now) }
+    /// What stands before a packet of IP in the frame.
+    pub(crate) fn layer(self, frame: &[u8]) -> Layer
+        ensures vlans { result.vlans.items ≡ vlans_of self frame.now }
+        ensures network { result.network ≡ network_of self frame.now }
     {
         match self {
-            Link::Ethernet => network_after(frame, ETHERNET_TYPE),
-            Link::Cooked => network_after(frame, COOKED_TYPE),
-            Link::CookedV2 => network_after(frame, COOKED_V2_TYPE),
-            Link::Raw => Ok(0),
-            Link::Loopback => network_after_family(frame),
-            Link::Unknown => Err(Reason::UnknownLink),
+            Link::Ethernet => layer_after(frame, ETHERNET_TYPE),
+            Link::Cooked => layer_after(frame, COOKED_TYPE),
+            Link::CookedV2 => layer_after(frame, COOKED_V2_TYPE),
+            Link::Raw => untagged(Ok(0)),
+            Link::Loopback => untagged(after_family(frame)),
+            Link::Unknown => untagged(Err(Reason::UnknownLink)),
         }
     }
 
@@ -86,17 +85,15 @@ impl Link {
             _ => None,
         }
     }
+}
 
-    /// The identifiers of the VLANs that the frame is tagged with, the outermost first.
-    pub(crate) fn vlans(self, frame: &[u8]) -> ArrayVec<u16, MAX_TAGS>
-        ensures { result.items ≡ vlans_of self frame.now }
-    {
-        match self {
-            Link::Ethernet => vlans_after(frame, ETHERNET_TYPE),
-            Link::Cooked => vlans_after(frame, COOKED_TYPE),
-            Link::CookedV2 => vlans_after(frame, COOKED_V2_TYPE),
-            _ => ArrayVec::new(),
-        }
+/// What stands before a packet of IP where there are no tags.
+fn untagged(network: Result<usize, Reason>) -> Layer
+    ensures { (result.vlans.items ≡ []) × (result.network ≡ network) }
+{
+    Layer {
+        vlans: ArrayVec::new(),
+        network,
     }
 }
 
@@ -121,9 +118,8 @@ fn is_family(number: u8) -> bool
 }
 
 /// Where a packet of IP begins after a family of addresses.
-fn network_after_family(frame: &[u8]) -> Result<usize, Reason>
-    ensures network { NetworkAt frame.now Link.Loopback result }
-    ensures within { IfOk result (λ at. at ≤ length frame.now) }
+fn after_family(frame: &[u8]) -> Result<usize, Reason>
+    ensures { result ≡ after_family frame.now }
 {
     if frame.len() < 4 {
         return Err(Reason::Cut);

@@ -1,15 +1,13 @@
 //! What a frame has.
-ghost use Rattle.nb_frames.specs.Carried.{CarriedIn};
-ghost use Rattle.nb_frames.specs.Contents.{Carries, HasContents};
-ghost use Rattle.nb_frames.specs.Ip.{IsIp};
-ghost use Rattle.nb_frames.specs.Joined.{CarriesJoined};
+ghost use Rattle.std.specs.Prelude.{◌≡◌};
+ghost use Rattle.nb_frames.specs.Carried.{carried_from, carried_in, carried_joined};
+ghost use Rattle.nb_frames.specs.Contents.{HasContents};
 
-use crate::carried::{Carried, Hosts, IpFragment};
+use crate::carried::{Carried, Hosts, IpFragment, IpPacket};
 use crate::contents::Contents;
 use crate::fields::behind;
-use crate::ip_packet::IpPacket;
-use crate::ipv4_reading::read_ipv4;
-use crate::ipv6_reading::{read_ipv6, upper_of};
+use crate::ip_reading::read_ip;
+use crate::ipv6_reading::upper_of;
 use crate::link::Link;
 use crate::payload::Payload;
 use crate::reason::Reason;
@@ -24,24 +22,24 @@ pub fn contents_of<'a>(link_type: u16, frame: &'a [u8]) -> Contents<'a>
     ensures { HasContents link_type frame.now result }
 {
     let link = Link::of(link_type);
+    let layer = link.layer(frame);
     Contents {
         sender: link.sender(frame),
         receiver: link.receiver(frame),
-        vlans: link.vlans(frame),
-        carried: carried_by(link, frame),
+        vlans: layer.vlans,
+        carried: carried_by(frame, layer.network),
     }
 }
 
-/// What a frame carries.
-fn carried_by<'a>(link: Link, frame: &'a [u8]) -> Carried<'a>
-    ensures { Carries link frame.now result }
+/// What a frame carries where its packet begins there.
+fn carried_by<'a>(frame: &'a [u8], network: Result<usize, Reason>) -> Carried<'a>
+    ensures { result ≡ carried_from frame.now network }
 {
-    let at = match link.network(frame) {
-        Ok(at) => at,
-        Err(reason) => return Carried::Other(reason),
-    };
-    match read_ip(behind(frame, at)) {
-        Ok(packet) => carried_in(packet),
+    match network {
+        Ok(at) => match read_ip(behind(frame, at)) {
+            Ok(packet) => carried_in(packet),
+            Err(reason) => Carried::Other(reason),
+        },
         Err(reason) => Carried::Other(reason),
     }
 }
@@ -51,7 +49,7 @@ fn carried_by<'a>(link: Link, frame: &'a [u8]) -> Carried<'a>
 ///
 /// RFC 791 section 3.2, RFC 8200 section 4.5.
 pub fn carried_by_joined<'a>(hosts: Hosts, protocol: u8, body: Payload<'a>) -> Carried<'a>
-    ensures { CarriesJoined hosts protocol body.entry result }
+    ensures { result ≡ carried_joined hosts protocol body.entry }
 {
     if !hosts.source.is_ipv6() {
         return carried_in(IpPacket {
@@ -74,7 +72,7 @@ pub fn carried_by_joined<'a>(hosts: Hosts, protocol: u8, body: Payload<'a>) -> C
 
 /// What a packet of IP carries.
 fn carried_in<'a>(packet: IpPacket<'a>) -> Carried<'a>
-    ensures { CarriedIn packet.entry result }
+    ensures { result ≡ carried_in packet.entry }
 {
     if let Some(place) = packet.place {
         return Carried::Fragment(IpFragment {
@@ -88,19 +86,5 @@ fn carried_in<'a>(packet: IpPacket<'a>) -> Carried<'a>
         17 => read_udp(packet.hosts, &packet.body),
         6 => read_tcp(packet.hosts, &packet.body),
         other => Carried::Other(Reason::Protocol(other)),
-    }
-}
-
-/// What is read of a packet, by the version that it says.
-pub(crate) fn read_ip<'a>(packet: &'a [u8]) -> Result<IpPacket<'a>, Reason>
-    ensures { IsIp packet.now result }
-{
-    if packet.len() < 20 {
-        return Err(Reason::Cut);
-    }
-    match packet[0] / 16 {
-        4 => read_ipv4(packet),
-        6 => read_ipv6(packet),
-        _ => Err(Reason::Bad),
     }
 }

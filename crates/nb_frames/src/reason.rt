@@ -1,6 +1,4 @@
 //! Why nothing of a frame is read.
-ghost use Rattle.std.specs.Prelude.{◌≤◌, MatchResult};
-ghost use Rattle.nb_frames.specs.Lacking.{Lacks};
 
 /// Why nothing of a frame is read further.
 #[derive(Clone, Copy, Debug, PartialEq, Eq)]
@@ -24,19 +22,4 @@ pub enum Reason {
     /// A header says what can't be: another version than 4 or 6, or a length that its own fields or
     /// what is left of the packet don't fit.
     Bad,
-}
-
-/// Whether a header of at least so many bytes fits what was on the wire, and the bytes that are
-/// needed of it are captured.
-pub(crate) fn judge(wire: usize, captured: usize, least: usize, needed: usize) -> Result<(), Reason>
-    ensures { MatchResult result
-        (λ _. (least ≤ wire) × (needed ≤ captured)) (Lacks wire captured least needed) }
-{
-    if wire < least {
-        return Err(Reason::Bad);
-    }
-    if captured < needed {
-        return Err(Reason::Cut);
-    }
-    Ok(())
 }

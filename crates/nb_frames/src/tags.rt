@@ -1,7 +1,7 @@
 //! Types of what follows a link layer, and tags of VLANs before it.
-ghost use Rattle.std.specs.Prelude.{◌≡◌, ◌+◌, ◌^◌, ◌<◌, ◌≤◌, length, IfOk};
+ghost use Rattle.std.specs.Prelude.{◌≡◌, ◌+◌, ◌^◌, ◌<◌, ◌≤◌, length};
 ghost use Rattle.nb_frames.specs.declared.limits.TheConstants.{MAX_TAGS};
-ghost use Rattle.nb_frames.specs.Tags.{is_tag, is_ip, is_llc_with_ip, follows, TypeAt, vlans_at};
+ghost use Rattle.nb_frames.specs.Tags.{is_tag, is_ip, is_llc_with_ip, follows, network_at, vlans_at};
 
 use crate::fields::word;
 use crate::limits::MAX_TAGS;
@@ -61,8 +61,7 @@ fn is_llc_with_ip(frame: &[u8], at: usize) -> bool
 /// What follows a type that is no tag's, at `next`.
 fn follows(frame: &[u8], kind: u16, next: usize) -> Result<usize, Reason>
     requires { next ≤ length frame.now }
-    ensures network { result ≡ follows frame.now kind next }
-    ensures within { IfOk result (λ at. at ≤ length frame.now) }
+    ensures { result ≡ follows frame.now kind next }
 {
     if is_ip(kind) {
         return Ok(next);
@@ -79,40 +78,41 @@ fn follows(frame: &[u8], kind: u16, next: usize) -> Result<usize, Reason>
     Err(Reason::NoIp)
 }
 
-/// What follows the type at a place, and the tags before it.
-pub(crate) fn network_after(frame: &[u8], mut place: TypePlace) -> Result<usize, Reason>
-    requires { (place.at + 2 ≤ place.next) × (place.next ≤ 20) }
-    ensures network { TypeAt frame.now MAX_TAGS place.at place.next result }
-    ensures within { IfOk result (λ at. at ≤ length frame.now) }
-{
-    let mut most = MAX_TAGS;
-    'tags: loop {
-        if frame.len() < place.next {
-            return Err(Reason::Cut);
-        }
-        let kind = word(frame, place.at);
-        if !is_tag(kind) {
-            return follows(frame, kind, place.next);
-        }
-        if most == 0 {
-            return Err(Reason::TooManyTags);
-        }
-        most -= 1;
-        place = place.in_tag();
-    }
+/// What stands before a packet of IP.
+#[derive(Debug, Drop)]
+pub(crate) struct Layer {
+    /// The identifiers of VLANs in the tags, the outermost first.
+    pub(crate) vlans: ArrayVec<u16, MAX_TAGS>,
+    /// Where the packet begins in the frame, or why none is read.
+    pub(crate) network: Result<usize, Reason>,
 }
 
-/// The identifiers in the tags, the outermost first.
-pub(crate) fn vlans_after(frame: &[u8], mut place: TypePlace) -> ArrayVec<u16, MAX_TAGS>
+/// The tags from the type at a place on, and what follows them.
+pub(crate) fn layer_after(frame: &[u8], mut place: TypePlace) -> Layer
     requires { (place.at + 2 ≤ place.next) × (place.next ≤ 20) }
-    ensures { result.items ≡ vlans_at MAX_TAGS frame.now place.at place.next }
+    ensures vlans { result.vlans.items ≡ vlans_at MAX_TAGS frame.now place.at place.next }
+    ensures network { result.network ≡ network_at MAX_TAGS frame.now place.at place.next }
 {
     let mut vlans = ArrayVec::new();
     let mut most = MAX_TAGS;
-    'tags: while 0 < most && place.next + 2 <= frame.len() && is_tag(word(frame, place.at)) {
+    'tags: while place.next <= frame.len() {
+        let kind = word(frame, place.at);
+        if !is_tag(kind) {
+            let network = follows(frame, kind, place.next);
+            return Layer { vlans, network };
+        }
+        if most == 0 {
+            let network = Err(Reason::TooManyTags);
+            return Layer { vlans, network };
+        }
+        if frame.len() < place.next + 2 {
+            let network = Err(Reason::Cut);
+            return Layer { vlans, network };
+        }
         vlans.push(word(frame, place.next) % 0x1000);
         most -= 1;
         place = place.in_tag();
     }
-    vlans
+    let network = Err(Reason::Cut);
+    Layer { vlans, network }
 }

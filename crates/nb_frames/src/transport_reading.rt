@@ -1,21 +1,23 @@
 //! Datagrams of UDP, and segments of TCP.
 ghost use Rattle.std.specs.Prelude.{◌≡◌, ◌≤◌, length};
-ghost use Rattle.nb_frames.specs.Udp.{UdpIn, ports_in};
-ghost use Rattle.nb_frames.specs.Tcp.{TcpIn, tcp_header};
+ghost use Rattle.nb_frames.specs.Transport.{ports_in, tcp_header, tcp_in, udp_in};
 
 use crate::carried::{Carried, Hosts, Ports, TcpSegment, UdpDatagram};
 use crate::fields::{long, word};
 use crate::payload::Payload;
-use crate::reason::{Reason, judge};
+use crate::reason::Reason;
 use crate::tcp_flags::TcpFlags;
 
 /// What a packet between these hosts carries whose protocol is UDP (RFC 768).
 pub(crate) fn read_udp<'a>(hosts: Hosts, body: &Payload<'a>) -> Carried<'a>
-    ensures { UdpIn hosts body.now result }
+    ensures { result ≡ udp_in hosts body.now }
 {
     let bytes = body.bytes();
-    if let Err(reason) = judge(body.wire_len(), bytes.len(), 8, 8) {
-        return Carried::Other(reason);
+    if body.wire_len() < 8 {
+        return Carried::Other(Reason::Bad);
+    }
+    if bytes.len() < 8 {
+        return Carried::Other(Reason::Cut);
     }
     let length = word(bytes, 4) as usize;
     if length < 8 {
@@ -30,12 +32,15 @@ pub(crate) fn read_udp<'a>(hosts: Hosts, body: &Payload<'a>) -> Carried<'a>
 
 /// What a packet between these hosts carries whose protocol is TCP (RFC 9293 section 3.1).
 pub(crate) fn read_tcp<'a>(hosts: Hosts, body: &Payload<'a>) -> Carried<'a>
-    ensures { TcpIn hosts body.now result }
+    ensures { result ≡ tcp_in hosts body.now }
 {
     let bytes = body.bytes();
     let wire = body.wire_len();
-    if let Err(reason) = judge(wire, bytes.len(), 20, 16) {
-        return Carried::Other(reason);
+    if wire < 20 {
+        return Carried::Other(Reason::Bad);
+    }
+    if bytes.len() < 16 {
+        return Carried::Other(Reason::Cut);
     }
     let header = tcp_header(bytes);
     if header < 20 || wire < header {

@@ -2,11 +2,8 @@ mod OptionsLemmas
 mod ContextLemmas
 mod FileLemmas
 mod SizeLemmas
-mod WaitLemmas
-mod PartLemmas
+mod StepLemmas
 mod PassLemmas
-mod FillLemmas
-mod PassedLemmas
 mod SeekLemmas
 mod TakingLemmas
 mod LawLemmas

@@ -1,5 +1,5 @@
 -- What reading the next frame of a file answers, and what the room then has.
-use Rattle.std.specs.Prelude.{◌≡◌, ◌<◌, ◌≤◌, ◌+◌, ◌-◌, ◌^◌, ◌++◌, ◌∷◌, ℕ, List, [], length, Option, Some, None, Result, Ok, Err}
+use Rattle.std.specs.Prelude.{◌≡◌, ◌<◌, ◌≤◌, ◌+◌, ◌-◌, ◌^◌, ◌++◌, ◌∷◌, ℕ, List, [], length, Option, Some, None, Result, Ok, Err, option_map}
 use Rattle.std.specs.Io.KnownBytes.{Consumes, IsAtEnd}
 use Rattle.nb_streams.specs.Counted.{Counts}
 use Rattle.nb_streams.specs.Devices.{GrowTo}
@@ -17,49 +17,63 @@ use Rattle.nb_pcap.specs.Frame.{FrameValue, frame_at, value_of}
 use Rattle.nb_pcap.specs.Steps.{Stops}
 
 -- what a room for a file has: the bytes, what the next part is read by, the byte at which that begins, how many frames were given,
--- and how it stands to the file
+-- how it stands to the file, and where the frame that was given last stands in what was lent last
 pub record FileValue : Type 0 where
   pub room : RoomValue
   pub context : Context
   pub place : ℕ
   pub frames : ℕ
   pub standing : Standing
+  pub last : Option Head
 
 -- before anything was read, of a file of fewer than 2^64 bytes
 abbrev pub nothing_read : FileValue
-nothing_read = record { room = nothing_within (2 ^ 64 - 1); context = Beginning; place = 0; frames = 0; standing = Reading }
+nothing_read = record { room = nothing_within (2 ^ 64 - 1); context = Beginning; place = 0; frames = 0; standing = Reading; last = None }
 
--- IsFileRoom room place frames standing: such are the numbers of a room for a file
-pub record IsFileRoom (room : RoomValue) (place frames : ℕ) (standing : Standing) : Type 0 where
+-- IsFileRoom room place frames standing last: such are the numbers of a room for a file, which gives a frame again while it is read
+pub record IsFileRoom (room : RoomValue) (place frames : ℕ) (standing : Standing) (last : Option Head) : Type 0 where
   pub most : room.most ≡ 2 ^ 64 - 1
   pub within : room.taken ≤ room.most
   pub counted : frames ≤ place
   pub below : place ≤ room.taken
   pub place_is : standing ≡ Reading → place + length room.rest ≡ room.taken
+  pub near : standing ≡ Reading → length room.rest ≤ MAX_READ
+  pub given : (standing ≡ Reading → ⊥) → last ≡ None
 
 -- a frame, and its number in the file, the first being 1
 pub record Numbered : Type 0 where
   pub number : ℕ
   pub frame : FrameValue
 
+-- a frame that is lent, by its value
+abbrev pub frame_lent : Option Frame → Option Numbered
+frame_lent lent = option_map (λ (f : Frame). record { number = f.number; frame = value_of f }) lent
+
 -- what is answered, a frame by its value
 abbrev pub lent_frame : Result (Option Frame) FileFault → Result (Option Numbered) FileFault
-lent_frame (Ok None) = Ok None
-lent_frame (Ok (Some f)) = Ok (Some (record { number = f.number; frame = value_of f }))
+lent_frame (Ok lent) = Ok (frame_lent lent)
 lent_frame (Err why) = Err why
 
--- the frame that was handed out last, which stands so
-abbrev pub handed_frame : FileValue → Result (Option Head) FileFault → Result (Option Numbered) FileFault
-handed_frame file (Ok None) = Ok None
-handed_frame file (Ok (Some head)) = Ok (Some (record { number = file.frames; frame = frame_at file.context file.room.lent head }))
-handed_frame file (Err why) = Err why
+-- the frame that was given last
+abbrev pub last_of : FileValue → Option Numbered
+last_of file = option_map (λ (head : Head). record { number = file.frames; frame = frame_at file.context file.room.lent head }) file.last
+
+-- what is answered, where it is this frame
+abbrev pub answered : FileValue → Result Unit FileFault → Result (Option Numbered) FileFault
+answered file (Ok done) = Ok (last_of file)
+answered file (Err why) = Err why
+
+-- GivesAgain result new: the room gives again what was answered, and none at a fault
+abbrev pub GivesAgain : Result (Option Numbered) FileFault → FileValue → Type 0
+GivesAgain (Ok found) new = last_of new ≡ found
+GivesAgain (Err why) new = last_of new ≡ None
 
 -- Finds old got left counts later result new: what is answered where these bytes came after those that were held, and what the room then has
 abbrev pub Finds : FileValue → List ℕ → Option (List ℕ) → Counts → Counts → Result (Option Numbered) FileFault → FileValue → Type 0
 Finds old got left counts later (Ok (Some found)) new =
     Spells old.context (old.room.rest ++ got) (found.frame ∷ []) new.context new.room.rest
     × (found.number ≡ old.frames + 1) × (new.frames ≡ old.frames + 1) × (new.standing ≡ Reading)
-    × (length old.room.rest ≤ MAX_READ → length new.room.rest ≤ MAX_READ)
+    × (length new.room.rest ≤ MAX_READ)
     × (new.place + length new.room.rest ≡ old.place + length (old.room.rest ++ got)) × (found.number < 2 ^ 64)
 Finds old got left counts later (Ok None) new =
     Spells old.context (old.room.rest ++ got) [] new.context [] × IsAtEnd left × (new.context ≡ Beginning → ⊥)
@@ -93,6 +107,6 @@ ReadsFrom Reading old before left counts later result new = ReadsOn old before l
 ReadsFrom Ended old before left counts later result new = Repeats old before left counts later (Ok None) result new
 ReadsFrom (Stopped why) old before left counts later result new = Repeats old before left counts later (Err why) result new
 
--- ReadsFrame old before left counts later result new: a call for the next frame
+-- ReadsFrame old before left counts later result new: a call for the next frame, which the room then gives again
 abbrev pub ReadsFrame : FileValue → Option (List ℕ) → Option (List ℕ) → Counts → Counts → Result (Option Numbered) FileFault → FileValue → Type 0
-ReadsFrame old before left counts later result new = ReadsFrom old.standing old before left counts later result new
+ReadsFrame old before left counts later result new = ReadsFrom old.standing old before left counts later result new × GivesAgain result new

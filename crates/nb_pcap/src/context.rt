@@ -124,13 +124,9 @@ fn take_first(alloc: Global, context: &mut Context, part: &[u8]) -> Result<Optio
         };
     }
     let mut section = no_section(alloc);
-    match take_block(alloc, &mut section, part) {
-        Ok(found) => {
-            *context = Context::Blocks(section);
-            Ok(found)
-        }
-        Err(fault) => Err(fault),
-    }
+    let found = take_block(alloc, &mut section, part)?;
+    *context = Context::Blocks(section);
+    Ok(found)
 }
 
 /// Takes in a part of a file, which is as long as it says, and answers where a frame stands in it.

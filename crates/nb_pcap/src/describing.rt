@@ -28,10 +28,7 @@ fn own_name(alloc: Global, name: Option<&[u8]>) -> Result<Option<Bytes>, NoMemor
     ensures { IfOk result (λ kept. kept ≡ option_map (λ (n : Bor (List ℕ)). n.now) name.entry) }
 {
     match name {
-        Some(name) => match Bytes::copy(alloc, name) {
-            Ok(kept) => Ok(Some(kept)),
-            Err(fault) => Err(fault),
-        },
+        Some(name) => Ok(Some(Bytes::copy(alloc, name)?)),
         None => Ok(None),
     }
 }
@@ -46,18 +43,16 @@ fn interface_of(
     requires { INTERFACE_LENGTH ≤ length block.now }
     ensures { IfOk result (λ i. i ≡ interface_said order block.now (said_value said.entry)) }
 {
-    match own_name(alloc, said.name) {
-        Ok(name) => Ok(Interface {
-            link: number_16(order, block, 8),
-            snap: number_32(order, block, 12),
-            clock: Clock {
-                ticks: ticks_of(said.resolution),
-                offset: said.offset,
-            },
-            name,
-        }),
-        Err(fault) => Err(fault),
-    }
+    let name = own_name(alloc, said.name)?;
+    Ok(Interface {
+        link: number_16(order, block, 8),
+        snap: number_32(order, block, 12),
+        clock: Clock {
+            ticks: ticks_of(said.resolution),
+            offset: said.offset,
+        },
+        name,
+    })
 }
 
 /// Adds the interface that a block describes to its section.

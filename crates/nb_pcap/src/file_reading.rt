@@ -7,7 +7,7 @@ ghost use Rattle.nb_pcap.specs.contracts.file_reading.FileRoom.{the_row};
 ghost use Rattle.nb_pcap.specs.declared.limits.TheConstants.{MAX_ITEM};
 ghost use Rattle.nb_pcap.specs.Frame.{value_of, frame_at};
 ghost use Rattle.nb_pcap.specs.Seeking.{SeeksFrame};
-ghost use Rattle.nb_pcap.specs.Reading.{nothing_read, ReadsFrame, lent_frame, handed_frame};
+ghost use Rattle.nb_pcap.specs.Reading.{nothing_read, ReadsFrame, lent_frame, answered, frame_lent, last_of};
 
 use crate::context::Context;
 use crate::fault::FileFault;
@@ -45,6 +45,7 @@ fn find_frame<R: Read>(
 ) -> Result<Option<Head>, FileFault>
     requires place_is { place.old + length room.old.rest ≡ room.old.taken }
     requires within { room.old.taken ≤ room.old.most }
+    requires near { length room.old.rest ≤ MAX_READ }
     ensures { SeeksFrame context.old place.old room.old (R.remaining reader.old.inner)
         (R.remaining reader.new.inner) reader.old.counts reader.new.counts result context.new
         place.new room.new }
@@ -52,11 +53,11 @@ fn find_frame<R: Read>(
     'parts: loop {
         room.let_go();
         match take_part(alloc, room, context, reader) {
-            Ok(Part::Frame(head, _)) => {
+            Ok(Part::Frame(head)) => {
                 *place = room.place();
                 return Ok(Some(head));
             }
-            Ok(Part::Other(_)) => *place = room.place(),
+            Ok(Part::Other) => *place = room.place(),
             Ok(Part::End) => return Ok(None),
             Err(fault) => return Err(fault),
         }
@@ -75,6 +76,8 @@ pub struct FileRoom {
     /// How many frames were given.
     frames: u64,
     standing: Standing,
+    /// Where the frame that was given last stands in what the room has handed out.
+    last: Option<Head>,
 }
 
 impl Model for FileRoom {
@@ -88,9 +91,10 @@ impl Model for FileRoom {
       place = f.place;
       frames = f.frames;
       standing = f.standing;
+      last = f.last;
     } };
 
-    ghost invariant = { λ f. IsFileRoom f.room f.place f.frames f.standing };
+    ghost invariant = { λ f. IsFileRoom f.room f.place f.frames f.standing f.last };
 }
 
 impl FileRoom {
@@ -105,6 +109,7 @@ impl FileRoom {
             place: 0,
             frames: 0,
             standing: Standing::Reading,
+            last: None,
         }
     }
 
@@ -130,6 +135,17 @@ impl FileRoom {
         ensures { result ≡ self.now.frames }
     {
         self.frames
+    }
+
+    /// The frame that [`next_frame`] gave last, lent again; `None` where its last call gave none, or
+    /// where there was no call.
+    pub fn last_frame(&self) -> Option<Frame<'_>>
+        ensures { frame_lent result ≡ last_of self.now }
+    {
+        match self.last {
+            Some(head) => Some(self.frame(head)),
+            None => None,
+        }
     }
 
     /// The frame that stands so in the part that was handed out last.
@@ -180,20 +196,19 @@ pub fn next_frame<'a, R: Read>(
         reader.old.counts reader.new.counts (lent_frame result) left)) }
 {
     match advance(file, reader) {
-        Ok(None) => Ok(None),
-        Ok(Some(head)) => Ok(Some(file.frame(head))),
+        Ok(()) => Ok(file.last_frame()),
         Err(fault) => Err(fault),
     }
 }
 
-/// Reads to the next frame, which the room then has handed out, and answers where it stands.
-fn advance<R: Read>(file: &mut FileRoom, reader: &mut Counted<R>) -> Result<Option<Head>, FileFault>
+/// Reads to the next frame, which the room then has handed out.
+fn advance<R: Read>(file: &mut FileRoom, reader: &mut Counted<R>) -> Result<(), FileFault>
     ensures { ReadsFrame file.old (R.remaining reader.old.inner) (R.remaining reader.new.inner)
-        reader.old.counts reader.new.counts (handed_frame file.new result) file.new }
+        reader.old.counts reader.new.counts (answered file.new result) file.new }
 {
     match file.standing {
         Standing::Reading => {}
-        Standing::Ended => return Ok(None),
+        Standing::Ended => return Ok(()),
         Standing::Stopped(fault) => return Err(fault),
     }
     match find_frame(
@@ -205,14 +220,17 @@ fn advance<R: Read>(file: &mut FileRoom, reader: &mut Counted<R>) -> Result<Opti
     ) {
         Ok(Some(head)) => {
             file.frames += 1;
-            Ok(Some(head))
+            file.last = Some(head);
+            Ok(())
         }
         Ok(None) => {
             file.standing = Standing::Ended;
-            Ok(None)
+            file.last = None;
+            Ok(())
         }
         Err(fault) => {
             file.standing = Standing::Stopped(fault);
+            file.last = None;
             Err(fault)
         }
     }

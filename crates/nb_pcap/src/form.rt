@@ -53,14 +53,9 @@ fn form_in(order: Order, bytes: &[u8]) -> Option<Form>
     requires { HEADER_LENGTH ≤ length bytes.now }
     ensures { result ≡ form_in order bytes.now }
 {
-    match unit_of(number_32(order, bytes, 0)) {
-        Some(unit) => Some(Form {
-            order,
-            unit,
-            link: (number_32(order, bytes, 20) % 0x1_0000) as u16,
-        }),
-        None => None,
-    }
+    let unit = unit_of(number_32(order, bytes, 0))?;
+    let link = (number_32(order, bytes, 20) % 0x1_0000) as u16;
+    Some(Form { order, unit, link })
 }
 
 /// What the header at the front of bytes says.

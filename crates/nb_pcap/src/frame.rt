@@ -76,15 +76,11 @@ pub(crate) fn name_in(context: &Context, which: usize) -> Option<&[u8]>
 fn behind(bytes: &[u8], start: usize) -> &[u8]
     ensures { result.now ≡ drop start bytes.now }
 {
-    if start <= bytes.len() {
-        &bytes[start..]
-    } else {
-        &[]
-    }
+    &bytes[start.min(bytes.len())..]
 }
 
 /// The first bytes, as many as there are of so many.
-fn first_of(bytes: &[u8], count: usize) -> &[u8]
+pub(crate) fn first_of(bytes: &[u8], count: usize) -> &[u8]
     ensures { result.now ≡ take count bytes.now }
 {
     if count <= bytes.len() {

@@ -1,5 +1,6 @@
 //! Laws of the definitions that the contracts cite. Each is proved; a call does nothing.
-ghost use Rattle.std.specs.Prelude.{◌≡◌, [], ℕ, List, Some, None};
+ghost use Rattle.std.specs.Prelude.{◌≡◌, ◌+◌, ◌++◌, ◌∷◌, [], ℕ, List, length, Option, Some, None, Ok, Err};
+ghost use Rattle.nb_streams.specs.Counted.{Counts};
 ghost use Rattle.nb_pcap.specs.declared.context.Context.{Context};
 ghost use Rattle.nb_pcap.specs.declared.context.Context.TheVariants.{Beginning};
 ghost use Rattle.nb_pcap.specs.declared.fault.FileFault.{FileFault};
@@ -9,6 +10,8 @@ ghost use Rattle.nb_pcap.specs.Classic.{record_time};
 ghost use Rattle.nb_pcap.specs.Clock.{ticks_a_second, time_of};
 ghost use Rattle.nb_pcap.specs.File.{Spells, IsBad, IsStuck, IsUnfinished};
 ghost use Rattle.nb_pcap.specs.Frame.{FrameValue};
+ghost use Rattle.nb_pcap.specs.Reading.{FileValue, Numbered, ReadsFrame, nothing_read};
+ghost use Rattle.nb_pcap.specs.Taking.{HasGiven, HasEnded, HasStopped};
 
 /// Bytes are parts, one after another, in one way: a whole file has one list of frames, and other
 /// bytes have one, and one rest, of which no part is read.
@@ -20,6 +23,30 @@ pub fn one_file()
         (last other : Context) → Spells Beginning bytes frames last rest → IsStuck last rest
         → Spells Beginning bytes others other left → IsStuck other left
         → (frames ≡ others) × (rest ≡ left) × (last ≡ other) }
+{}
+
+/// The frames that calls of [`next_frame`](crate::next_frame) give, one after another, are those
+/// that the bytes of the file spell, in order and numbered from 1, however the reads cut it; then
+/// the file ends, or a fault is answered with its byte and the number of frames before it.
+pub fn frames_in_order()
+    ensures none { (known : Option (List ℕ)) (counts : Counts) →
+        HasGiven known known counts counts [] nothing_read }
+    ensures next { (before now left : Option (List ℕ)) (counts midway later : Counts)
+        (frames : List FrameValue) (file new : FileValue) (found : Numbered)
+        → HasGiven before now counts midway frames file
+        → ReadsFrame file now left midway later (Ok (Some found)) new
+        → HasGiven before left counts later (frames ++ found.frame ∷ []) new
+        × (found.number ≡ length frames + 1) }
+    ensures end { (before now left : Option (List ℕ)) (counts midway later : Counts)
+        (frames : List FrameValue) (file new : FileValue)
+        → HasGiven before now counts midway frames file
+        → ReadsFrame file now left midway later (Ok None) new → HasEnded before left frames }
+    ensures fault { (before now left : Option (List ℕ)) (counts midway later : Counts)
+        (frames : List FrameValue) (file new : FileValue) (why : FileFault)
+        → HasGiven before now counts midway frames file
+        → ReadsFrame file now left midway later (Err why) new
+        → HasStopped before left counts later frames why new.place
+        × (new.frames ≡ length frames) }
 {}
 
 /// No part stands where one is unfinished, or where none can be read: so it is one list of frames

@@ -15,7 +15,6 @@ mod numbers;
 mod options;
 mod part_reading;
 mod section;
-mod taking;
 
 pub use clock::Clock;
 pub use fault::FileFault;
@@ -23,4 +22,3 @@ pub use file_reading::{FileRoom, Standing, next_frame};
 pub use form::{Form, Unit};
 pub use frame::{Frame, Head};
 pub use numbers::Order;
-pub use taking::{FrameTaker, NotTaken, StopFault, take_frames};

@@ -84,7 +84,7 @@ pub reads_on : (old new : FileValue) (before left : Option (List ℕ)) (calls la
     → ReadsFrame old before left calls later r new → ReadsOn old before left calls later x new
 reads_on old new before left calls later r x is same p =
     subst (λ (y : Result (Option Numbered) FileFault). ReadsOn old before left calls later y new) same
-    (subst (λ (s : Standing). ReadsFrom s old before left calls later r new) is p)
+    (subst (λ (s : Standing). ReadsFrom s old before left calls later r new) is p.0)
 
 -- a frame that was lent
 pub lent_is : (r : Result (Option Frame) FileFault) (o x : Option Frame) → r ≡ Ok o → o ≡ x → lent_frame r ≡ lent_frame (Ok x)

@@ -1,33 +1,42 @@
-use Rattle.std.proofs.Common.{◌≡◌, true, false, sym, ap, ◌∙◌, ◌+◌, ℕ}
-use Rattle.nb_frames.specs.Ipv6.{is_extension, ends}
-use Rattle.nb_frames.proofs.OptionLemmas.{none_without, some_with}
-use Rattle.nb_frames.proofs.InternetLemmas.{lacks_6, passes_6, fragment_6}
+use Rattle.std.proofs.Common.{◌≡◌, ◌+◌, ℕ, suc, true, false, length, ap, refl, arith}
+use Rattle.nb_frames.specs.Ipv6.{is_extension, extent}
+use Rattle.nb_frames.proofs.HeaderLemmas.{led_here, led_past, led_to_cut, led_fragment, led_on}
 use Rattle.nb_frames.proofs.ipv6_reading.upper_of.Goals as goal
 
-pub returns-in-Err-clause-leads : goal.returns-in-Err-clause-leads
-returns-in-Err-clause-leads c =
-    let is : is_extension c.headers.number ≡ true = cc in
-    c.headers.invariant.rest _ (lacks_6 _ _ _ _ _ _ is (ap (λ (n : ℕ). c.headers.at + n) c.extent.ensures.value) c.in-Err.ensures)
+pub headers-init : goal.headers-init
+headers-init c = record {
+  led = record { fuel = length c.args.packet.now; enough = omega arith; rest = refl };
+  there = c.requires.there;
+  within = c.requires.within;
+}
 
-pub returns-then-is_some-clause-leads : goal.returns-then-is_some-clause-leads
-returns-then-is_some-clause-leads c =
+pub returns-then-wire-end-clause-leads : goal.returns-then-wire-end-clause-leads
+returns-then-wire-end-clause-leads c =
     let is : is_extension c.headers.number ≡ true = cc in
-    let some = some_with c.place_of-place.result (sym c.is_some.ensures ∙ c.if-is_some.true) in
-    c.headers.invariant.rest _ (fragment_6 _ _ _ _ _ _ some.0 is (ap (λ (n : ℕ). c.headers.at + n) c.extent.ensures.value)
-    c.in_default.ensures.0 c.in_default.ensures.1 c.place_of-place.ensures some.1)
+    led_past _ _ _ _ _ _ c.headers.invariant.led is (ap (λ (n : ℕ). c.headers.at + n) c.extent.ensures.value) c.if-wire-end.true
+
+pub returns-then-packet-end-clause-leads : goal.returns-then-packet-end-clause-leads
+returns-then-packet-end-clause-leads c =
+    let is : is_extension c.headers.number ≡ true = cc in
+    led_to_cut _ _ _ _ _ _ c.headers.invariant.led is (ap (λ (n : ℕ). c.headers.at + n) c.extent.ensures.value) c.if-wire-end.false c.if-packet-end.true
+
+pub returns-in-Some-clause-leads : goal.returns-in-Some-clause-leads
+returns-in-Some-clause-leads c =
+    let is : is_extension c.headers.number ≡ true = cc in
+    led_fragment _ _ _ _ _ _ _ c.headers.invariant.led is (ap (λ (n : ℕ). c.headers.at + n) c.extent.ensures.value) c.if-wire-end.false c.if-packet-end.false c.in-Some.ensures
 
 pub headers-preserved : goal.headers-preserved
 headers-preserved c =
     let is : is_extension c.headers.number ≡ true = cc in
-    let none = none_without c.place_of-place.result (sym c.is_some.ensures ∙ c.if-is_some.false) in
+    let size = ap (λ (n : ℕ). c.headers.at + n) c.extent.ensures.value in
     record {
-      rest = λ answer more. c.headers.invariant.rest answer (passes_6 _ _ _ _ _ answer is (ap (λ (n : ℕ). c.headers.at + n) c.extent.ensures.value)
-          c.in_default.ensures.0 c.in_default.ensures.1 (sym c.place_of-place.ensures ∙ none) more);
-      there = c.in_default.ensures.1;
-      within = c.in_default.ensures.0;
+      led = led_on _ _ _ _ _ _ c.headers.invariant.led is size (omega (arith, c.extent.ensures.value, c.extent.ensures.some)) c.if-wire-end.false c.if-packet-end.false
+          c.in_default.ensures;
+      there = c.if-packet-end.false;
+      within = c.if-wire-end.false;
     }
 
 pub returns-clause-leads : goal.returns-clause-leads
 returns-clause-leads c =
     let none : is_extension c.headers.number ≡ false = cc in
-    c.headers.invariant.rest _ (ends none)
+    led_here _ _ _ _ _ c.headers.invariant.led none

@@ -1,12 +1,11 @@
-use Rattle.std.proofs.Common.{◌-◌, ◌≤◌, length, Result}
-use Rattle.nb_frames.specs.declared.ipv6_reading.Upper.{Upper}
-use Rattle.nb_frames.specs.declared.reason.Reason.{Reason}
-use Rattle.nb_frames.specs.Ipv6.{Leads}
+use Rattle.std.proofs.Common.{◌-◌, ◌≤◌, length}
+use Rattle.nb_frames.specs.Ipv6.{leads}
+use Rattle.nb_frames.proofs.HeaderLemmas.{IsLed}
 use Rattle.nb_frames.proofs.ipv6_reading.upper_of.Given as goal
 
 abbrev pub invariant-headers : goal.invariant-headers
 invariant-headers l = record {
-  rest : (answer : Result Upper Reason) → Leads l.packet l.wire l.number l.at answer → Leads l.packet l.wire l.fn.number l.fn.at answer;
+  led : IsLed l.packet l.wire l.number l.at (leads l.packet l.wire l.fn.number l.fn.at);
   there : l.at ≤ length l.packet;
   within : l.at ≤ l.wire;
 }

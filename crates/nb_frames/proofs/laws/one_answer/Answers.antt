@@ -1,5 +1,4 @@
-use Rattle.nb_frames.proofs.ExistenceLemmas.{some_contents}
-use Rattle.nb_frames.proofs.UniquenessLemmas.{one_contents, one_joined}
+use Rattle.nb_frames.proofs.AnswerLemmas.{one_contents, some_contents}
 use Rattle.nb_frames.proofs.laws.one_answer.Goals as goal
 
 pub returns-clause-some : goal.returns-clause-some
@@ -7,6 +6,3 @@ returns-clause-some c = some_contents
 
 pub returns-clause-one : goal.returns-clause-one
 returns-clause-one c = one_contents
-
-pub returns-clause-joined : goal.returns-clause-joined
-returns-clause-joined c = one_joined

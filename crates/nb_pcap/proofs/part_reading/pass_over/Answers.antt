@@ -1,23 +1,57 @@
-use Rattle.std.proofs.Common.{arith, refl}
-use Rattle.nb_pcap.proofs.PassedLemmas.{is_passed, front_fails, block_fails, block_passed, little_after, order_is}
+use Rattle.std.proofs.Common.{◌≡◌, ◌<◌, ◌-◌, ◌∙◌, sym, ap, arith, length, min}
+use Rattle.std.proofs.lemmas.Result.{err_from_is_err_and}
+use Rattle.nb_streams.specs.Room.{let_go_of}
+use Rattle.nb_pcap.proofs.PassLemmas.{is_passed, passing_none, passing_on, passing_few, passing_nearer, passing_unread, passing_cut, block_bad, block_passed, end_read}
 use Rattle.nb_pcap.proofs.part_reading.pass_over.Goals as goal
 
-pub returns-in-Err-clause-reads : goal.returns-in-Err-clause-reads
-returns-in-Err-clause-reads g c =
+pub pass-init : goal.pass-init
+pass-init g c =
     let p = is_passed c.args.context.now c.args.room.now.rest c.args.size c.requires.says c.requires.passed in
-    (front_fails _ _ _ _ _ _ _ _ _ _ p (omega arith) c.in-Err.ensures, refl)
+    passing_none c.args.room.now _ _ c.args.size c.requires.lent p.least_is c.requires.short
 
-pub returns-in-Ok-pass_end-clause-reads : goal.returns-in-Ok-pass_end-clause-reads
-returns-in-Ok-pass_end-clause-reads g c =
-    let p = is_passed c.args.context.now c.args.room.now.rest c.args.size c.requires.says c.requires.passed in
-    block_passed _ _ _ _ _ _ _ _ _ _ _ _ p (order_is _ _ _ _ p c.order_in.ensures) c.requires.short c.in-Ok.ensures.0 c.in-Ok.ensures.1 c.in-Ok-pass_end.ensures
+pub read_once-requires-clause-few : goal.read_once-requires-clause-few
+read_once-requires-clause-few g c =
+    let short : length c.pass.room.rest < c.pass.left = omega (arith, c.pass-test.true, ap length c.rest.ensures) in
+    let k_is : c.min-passed.result ≡ min (length c.pass.room.rest) (c.pass.left - 4) = omega (arith, c.min-passed.ensures, ap length c.rest-in-pass.ensures) in
+    omega (arith, passing_few c.pass.room c.let_go.new.self c.pass.left c.min-passed.result short c.pass.invariant.end k_is (c.let_go.ensures ∙ ap let_go_of c.hand_out.ensures))
 
-pub returns-in-Err-pass_end-clause-reads : goal.returns-in-Err-pass_end-clause-reads
-returns-in-Err-pass_end-clause-reads g c =
+pub returns-in_err-read_once : goal.returns-in_err-read_once
+returns-in_err-read_once g c =
     let p = is_passed c.args.context.now c.args.room.now.rest c.args.size c.requires.says c.requires.passed in
-    (block_fails _ _ _ _ _ _ _ _ _ _ _ _ _ p (order_is _ _ _ _ p c.order_in.ensures) c.in-Ok.ensures.0 c.in-Err-pass_end.ensures, refl)
+    let e = err_from_is_err_and c.from_residual.result c.from_residual.ensures.1 in
+    let short : length c.pass.room.rest < c.pass.left = omega (arith, c.pass-test.true, ap length c.rest.ensures) in
+    rw (e.1, e.2)
+    (passing_unread _ _ _ _ _ _ _ _ _ _ _ _ _ _ _ p c.pass.invariant short (c.let_go.ensures ∙ ap let_go_of c.hand_out.ensures) c.in_err-read_once.ensures)
 
-pub returns-in-Ok-pass_end-clause-near : goal.returns-in-Ok-pass_end-clause-near
-returns-in-Ok-pass_end-clause-near g c =
+pub returns-then-branch-eq0 : goal.returns-then-branch-eq0
+returns-then-branch-eq0 g c =
     let p = is_passed c.args.context.now c.args.room.now.rest c.args.size c.requires.says c.requires.passed in
-    little_after _ c.args.room.now c.pass_bytes.new.room c.pass_end.new.room _ _ _ _ _ _ p c.requires.short c.in-Ok.ensures.1 c.in-Ok-pass_end.ensures
+    let short : length c.pass.room.rest < c.pass.left = omega (arith, c.pass-test.true, ap length c.rest.ensures) in
+    passing_cut _ _ _ _ _ _ _ _ _ _ _ _ _ _ _ p c.pass.invariant short (c.let_go.ensures ∙ ap let_go_of c.hand_out.ensures) c.in_ok-read_once.ensures c.if-branch-eq0.true
+
+pub pass-smaller : goal.pass-smaller
+pass-smaller g c =
+    let short : length c.pass.room.rest < c.pass.left = omega (arith, c.pass-test.true, ap length c.rest.ensures) in
+    passing_nearer _ c.pass.room c.let_go.new.self c.read_once.new.room _ _ _ _ _ _ short (omega (arith, c.min-passed.ensures, ap length c.rest-in-pass.ensures)) (c.let_go.ensures ∙ ap let_go_of c.hand_out.ensures)
+    c.in_ok-read_once.ensures c.if-branch-eq0.false
+
+pub pass-preserved : goal.pass-preserved
+pass-preserved g c =
+    let short : length c.pass.room.rest < c.pass.left = omega (arith, c.pass-test.true, ap length c.rest.ensures) in
+    let k_is : c.min-passed.result ≡ min (length c.pass.room.rest) (c.pass.left - 4) = omega (arith, c.min-passed.ensures, ap length c.rest-in-pass.ensures) in
+    passing_on _ _ _ _ _ _ _ _ _ _ _ _ _ _ c.pass.invariant short k_is (c.let_go.ensures ∙ ap let_go_of c.hand_out.ensures) c.in_ok-read_once.ensures
+
+pub number_32-requires : goal.number_32-requires
+number_32-requires g c = omega (arith, c.pass-test.false, ap length c.rest.ensures, ap length c.rest-2.ensures, c.pass.invariant.end)
+
+pub returns-then-number_32-size : goal.returns-then-number_32-size
+returns-then-number_32-size g c =
+    let p = is_passed c.args.context.now c.args.room.now.rest c.args.size c.requires.says c.requires.passed in
+    block_bad _ _ _ _ _ _ _ _ _ p c.pass.invariant (omega (arith, c.pass-test.false, ap length c.rest.ensures))
+    (λ h. c.if-number_32-size.true (end_read _ _ c.pass.room.rest _ _ _ _ p _ c.order_in.ensures c.rest-2.ensures c.number_32.ensures ∙ h))
+
+pub returns : goal.returns
+returns g c =
+    let p = is_passed c.args.context.now c.args.room.now.rest c.args.size c.requires.says c.requires.passed in
+    block_passed _ _ _ _ _ _ _ _ _ _ p c.pass.invariant (omega (arith, c.pass-test.false, ap length c.rest.ensures))
+    (sym (end_read _ _ c.pass.room.rest _ _ _ _ p _ c.order_in.ensures c.rest-2.ensures c.number_32.ensures) ∙ c.if-number_32-size.false) c.hand_out-2.ensures

@@ -1,25 +1,37 @@
-use Rattle.std.proofs.Common.{refl}
-use Rattle.nb_pcap.proofs.PartLemmas.{is_whole, is_taken, is_refused}
+use Rattle.std.proofs.Common.{◌∙◌, [], ap, take}
+use Rattle.std.proofs.lemmas.Result.{err_from_is_err_and}
+use Rattle.nb_pcap.proofs.StepLemmas.{IsFront, front_says, front_split, front_took, front_fails}
 use Rattle.nb_pcap.proofs.part_reading.take_whole.Goals as goal
 
 pub take_in-requires : goal.take_in-requires
-take_in-requires c = is_whole _ _ _ _ _ c.rest.ensures c.front_of.ensures c.requires.says c.requires.within
+take_in-requires c =
+    let f : IsFront c.args.context.now c.args.room.now c.first_of.result.now c.args.size =
+    record { part_is = c.first_of.ensures ∙ ap (take c.args.size) c.rest.ensures; says = c.requires.says; within = c.requires.within; ahead = c.requires.ahead } in
+    front_says _ _ _ _ f
 
-pub returns-in-Ok-Some : goal.returns-in-Ok-Some
-returns-in-Ok-Some c = (
-  refl,
-  is_taken _ _ _ _ _ _ _ _ _ c.rest.ensures c.front_of.ensures c.requires.says c.requires.within c.in-Ok-Some.is c.in-Ok-Some.field-0-is c.take_in.ensures,
-  c.hand_out.ensures,
-)
+pub returns-in_err-found : goal.returns-in_err-found
+returns-in_err-found c =
+    let f : IsFront c.args.context.now c.args.room.now c.first_of.result.now c.args.size =
+    record { part_is = c.first_of.ensures ∙ ap (take c.args.size) c.rest.ensures; says = c.requires.says; within = c.requires.within; ahead = c.requires.ahead } in
+    let e = err_from_is_err_and c.from_residual.result c.from_residual.ensures.1 in
+    λ known counts. rw (e.1, e.2) (front_fails _ _ _ _ _ _ known counts f c.in_err-found.ensures)
 
-pub returns-in-Ok-None : goal.returns-in-Ok-None
-returns-in-Ok-None c = (
-  refl,
-  is_taken _ _ _ _ _ _ _ _ _ c.rest.ensures c.front_of.ensures c.requires.says c.requires.within c.in-Ok-None.is c.in-Ok-None.field-0-is c.take_in.ensures,
-  c.hand_out-in-Ok-None.ensures,
-)
+pub returns-in-Some : goal.returns-in-Some
+returns-in-Some c =
+    let f : IsFront c.args.context.now c.args.room.now c.first_of.result.now c.args.size =
+    record { part_is = c.first_of.ensures ∙ ap (take c.args.size) c.rest.ensures; says = c.requires.says; within = c.requires.within; ahead = c.requires.ahead } in
+    λ known counts. record {
+      got = [];
+      took = front_took _ _ _ known counts c.hand_out.ensures;
+      gives = front_split _ _ _ _ _ _ _ f (rw c.in-Some.is at c.in_ok-found.ensures) c.hand_out.ensures;
+    }
 
-pub returns-in-Err : goal.returns-in-Err
-returns-in-Err c =
-    let r = is_refused _ _ _ _ _ _ _ _ c.rest.ensures c.front_of.ensures c.requires.says c.requires.within c.in-Err.is c.take_in.ensures in
-    (r.0, r.1, refl)
+pub returns-in-None : goal.returns-in-None
+returns-in-None c =
+    let f : IsFront c.args.context.now c.args.room.now c.first_of.result.now c.args.size =
+    record { part_is = c.first_of.ensures ∙ ap (take c.args.size) c.rest.ensures; says = c.requires.says; within = c.requires.within; ahead = c.requires.ahead } in
+    λ known counts. record {
+      got = [];
+      took = front_took _ _ _ known counts c.hand_out.ensures;
+      gives = (_, front_split _ _ _ _ _ _ _ f (rw c.in-None.is at c.in_ok-found.ensures) c.hand_out.ensures);
+    }

@@ -6,7 +6,7 @@ use Rattle.nb_frames.specs.declared.carried.Carried.TheVariants.{Udp}
 use Rattle.nb_frames.specs.declared.contents.Contents.{Contents}
 use Rattle.nb_frames.specs.Payload.{whole}
 
--- six bytes, and four
+-- six bytes
 pub record Six : Type 0 where
   pub a : ℕ
   pub b : ℕ
@@ -15,15 +15,18 @@ pub record Six : Type 0 where
   pub e : ℕ
   pub f : ℕ
 
+-- four bytes
 pub record Four : Type 0 where
   pub a : ℕ
   pub b : ℕ
   pub c : ℕ
   pub d : ℕ
 
+-- six bytes as a list
 abbrev pub six : Six → List ℕ
 six x = x.a ∷ x.b ∷ x.c ∷ x.d ∷ x.e ∷ x.f ∷ []
 
+-- four bytes as a list
 abbrev pub four : Four → List ℕ
 four x = x.a ∷ x.b ∷ x.c ∷ x.d ∷ []
 

@@ -1,5 +1,5 @@
 -- The bytes at a place, of some that stand one after another.
-use Rattle.std.proofs.Common.{ℕ, zero, suc, ◌≡◌, ◌≤◌, ◌<◌, ◌+◌, ◌-◌, ◌&&◌, ◌⊎◌, inl, inr, cond, nat_le, ltb, true, false, Bool, List, [], ◌∷◌, ◌++◌, length, drop, take, get_or, Option, None, Some, IsSome, refl, sym, ◌∙◌, ap, arith}
+use Rattle.std.proofs.Common.{ℕ, ◌≡◌, ◌≤◌, ◌<◌, ◌+◌, ◌-◌, ◌⊎◌, inl, inr, List, length, drop, take, get_or, Option, None, Some, IsSome, refl, sym, ◌∙◌, ap, arith}
 use Rattle.std.proofs.lemmas.Bool.{cases_lt}
 use Rattle.std.proofs.lemmas.List.{get_or-drop, get_or-take, length-take-le}
 use Rattle.std.proofs.lemmas.Grind.{common_steps}
@@ -96,17 +96,6 @@ front_by n more place bytes i hi (inr lo) = among_in n place bytes i lo hi ∙ s
 
 pub among_front : (n more place : ℕ) (bytes : List ℕ) (i : ℕ) → i < place + n → among n place bytes i ≡ among (n + more) place bytes i
 among_front n more place bytes i hi = front_by n more place bytes i hi (cases_lt i place)
-
-more_by : (n more place : ℕ) (bytes : List ℕ) (i : ℕ) → (i < place + n) ⊎ (place + n ≤ i)
-    → or_else (among n place bytes i) (among more (place + n) (drop n bytes) i) ≡ among (n + more) place bytes i
-more_by n more place bytes i (inl hi) = ap (λ z. or_else (among n place bytes i) z) (among_low more (place + n) (drop n bytes) i hi)
-    ∙ (or_else_none _ ∙ among_front n more place bytes i hi)
-more_by n more place bytes i (inr lo) = ap (λ z. or_else z (among more (place + n) (drop n bytes) i)) (among_high n place bytes i lo)
-    ∙ among_back n more place bytes i lo
-
-pub among_more : (n more place : ℕ) (bytes : List ℕ) (i : ℕ)
-    → or_else (among n place bytes i) (among more (place + n) (drop n bytes) i) ≡ among (n + more) place bytes i
-among_more n more place bytes i = more_by n more place bytes i (cases_lt i (place + n))
 
 take_by : (n place : ℕ) (bytes : List ℕ) (i : ℕ) → (among n place bytes i ≡ None) ⊎ ((place ≤ i) × (i < place + n))
     → (among n place (take n bytes) i ≡ None) ⊎ ((place ≤ i) × (i < place + n)) → among n place (take n bytes) i ≡ among n place bytes i

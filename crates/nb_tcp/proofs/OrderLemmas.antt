@@ -1,16 +1,15 @@
 -- Orders goes on.
-use Rattle.std.proofs.Common.{ℕ, zero, suc, add-zero, ◌≡◌, ◌≤◌, ◌<◌, ◌+◌, ◌-◌, ◌&&◌, ◌⊎◌, inl, inr, cond, nat_le, true, false, Bool, IsTrue, List, [], ◌∷◌, ◌++◌, length, length-append, length-drop, length-take, drop, take, get_or, Option, None, Some, IsSome, refl, sym, ◌∙◌, ap, subst, arith, append_assoc, append-nil}
+use Rattle.std.proofs.Common.{ℕ, ◌≡◌, ◌≤◌, ◌<◌, ◌+◌, ◌-◌, ◌⊎◌, inl, inr, cond, true, false, Bool, IsTrue, List, [], ◌∷◌, ◌++◌, length, length-drop, drop, take, Option, None, Some, refl, sym, ◌∙◌, ap, subst, arith}
 use Rattle.std.specs.Prelude.{max}
 use Rattle.std.proofs.lemmas.Bool.{cases_lt}
-use Rattle.std.proofs.lemmas.List.{get_or_append_left, get_or-append_right}
-use Rattle.nb_tcp.specs.Order.{Segment, StandsAt, among, or_else, is_keep_alive, sent_at, reach_after, placed_after, placed, Contradict}
-use Rattle.nb_tcp.specs.Runs.{in_runs, charge_of, IsNextAfter, Puts, Contradicts, Moves}
+use Rattle.nb_tcp.specs.Order.{Segment, StandsAt, among, or_else, is_keep_alive, sent_at, reach_after, placed_after, placed}
+use Rattle.nb_tcp.specs.Runs.{in_runs, charge_of, Puts, Contradicts}
 use Rattle.nb_tcp.specs.Kept.{Kept, Orders}
-use Rattle.nb_tcp.specs.Takes.{Takes, Differs, segment_of, HandsOn, WaitsAt}
+use Rattle.nb_tcp.specs.Takes.{Takes, Differs, segment_of}
 use Rattle.nb_tcp.specs.declared.taken.Refusal.{Refusal}
 use Rattle.nb_tcp.specs.declared.taken.Refusal.TheVariants.{Full}
 use Rattle.nb_tcp.specs.declared.limits.TheConstants.{ROOM, LAST, RUN_COST}
-use Rattle.nb_tcp.proofs.ByteLemmas.{or_else_none, or_else_assoc, some_stays, among_in, among_low, among_high, among_either, among_back, among_more, among_take, inside}
+use Rattle.nb_tcp.proofs.ByteLemmas.{or_else_none, or_else_assoc, some_stays, among_low, among_back, among_take, inside}
 
 placed_append : (reach : ℕ) (segments : List Segment) (s : Segment) (i : ℕ)
     → placed_after reach (segments ++ s ∷ []) i ≡ or_else (placed_after reach segments i) (sent_at (reach_after reach segments) s i)
@@ -129,48 +128,6 @@ keep_alive_agrees from old segments out place on_wire payload o it_is h =
     let s : sent_at (reach_after 0 segments) (segment_of place payload on_wire (length payload)) h.0 ≡ Some h.2.1 = h.2.3 in
     absurd (cc)
 
-joined : (from : ℕ) (runs : List (ℕ × List ℕ)) (segments : List Segment) (out xs : List ℕ) (at : ℕ) → at ≡ from + length out
-    → ((j : ℕ) → j < length out → placed segments (from + j) ≡ Some (get_or out j 0))
-    → ((j : ℕ) → j < length xs → placed segments (at + j) ≡ Some (get_or xs j 0))
-    → (j : ℕ) → j < length (out ++ xs) → (j < length out) ⊎ (length out ≤ j) → placed segments (from + j) ≡ Some (get_or (out ++ xs) j 0)
-joined from runs segments out xs at e before then j lt (inl h) = before j h ∙ ap (λ y. Some y) (sym (get_or_append_left out xs 0 j h))
-joined from runs segments out xs at e before then j lt (inr h) =
-    let same : from + j ≡ at + (j - length out) = omega (arith, e) in
-    ap (λ n. placed segments n) same
-    ∙ (then (j - length out) (omega (arith, length-append out xs))
-    ∙ ap (λ y. Some y) (sym (get_or-append_right out xs (length out) j 0 refl h)))
-
--- the bytes of the runs that were moved are handed on
-pub orders_moved : (from : ℕ) (old new : Kept) (segments : List Segment) (out to full : List ℕ)
-    → (m : Moves old.runs old.handed to new.handed full)
-    → new.reach ≡ old.reach → old.known ≤ old.handed → old.known ≤ new.known
-    → ((i : ℕ) → new.known ≤ i → in_runs new.runs i ≡ in_runs old.runs i)
-    → Orders from old segments out → Orders from new segments (out ++ m.moved)
-orders_moved from old new segments out to full m reach there known same h = record {
-  reached = omega (arith, m.place, h.reached, length-append out m.moved);
-  handed = λ j lt. joined from old.runs segments out m.moved old.handed h.reached h.handed
-      (λ k hi. sym (h.each (old.handed + k) (omega arith)) ∙ m.each k hi) j lt (cases_lt j (length out));
-  each = λ i le. same i le ∙ h.each i (omega arith);
-  reach = reach ∙ h.reach;
-}
-
-pub begins_anew : (from : ℕ) (old new : Kept) (segments : List Segment) (out : List ℕ) → new.reach ≡ old.reach → old.known ≤ new.known
-    → ((i : ℕ) → new.known ≤ i → in_runs new.runs i ≡ in_runs old.runs i)
-    → Orders from old segments out → Orders new.handed new segments []
-begins_anew from old new segments out reach known same h = record {
-  reached = sym (add-zero new.handed);
-  handed = λ j lt. absurd (omega arith);
-  each = λ i le. same i le ∙ h.each i (omega arith);
-  reach = reach ∙ h.reach;
-}
-
-pub waits : (kept : Kept) (place : ℕ) → kept.known ≤ kept.handed → IsNextAfter kept.runs kept.handed place → WaitsAt kept place
-waits kept place there f = record {
-  after = f.after;
-  there = λ from segments out h. let P : Option ℕ → Type 0 = λ z. IsSome z in subst P (h.each place (omega (arith, f.after))) f.there;
-  none = λ from segments out h e i lo hi. sym (h.each i (omega arith)) ∙ f.none (h.each kept.handed there ∙ e) i lo hi;
-}
-
 -- ---- a segment is taken
 pub alive_is : (reach place on_wire numbers : ℕ) (payload : List ℕ) (answer b : Bool)
     → answer ≡ is_keep_alive reach (record { place = place; bytes = []; numbers = numbers }) → numbers ≡ max on_wire (length payload)
@@ -232,12 +189,3 @@ takes_new old new sequence place skip on_wire payload rest count differs refusal
       whole = λ n. omega (arith, size, whole n);
       full = λ f. full_of place skip rest payload _ size (full f);
     }
-
-pub hands_on : (old new : Kept) (to full : List ℕ) → Moves old.runs old.handed to new.handed full → new.reach ≡ old.reach
-    → old.known ≤ old.handed → old.known ≤ new.known
-    → ((i : ℕ) → new.known ≤ i → in_runs new.runs i ≡ in_runs old.runs i) → HandsOn old to new full
-hands_on old new to full m reach there known same = record {
-  handed = m.moved;
-  appended = m.appended;
-  orders = λ from segments out h. orders_moved from old new segments out to full m reach there known same h;
-}

@@ -1,22 +1,12 @@
 -- A segment's bytes part after part: put, compared, handed on.
-use Rattle.std.proofs.Common.{ℕ, zero, suc, ◌≡◌, ◌≤◌, ◌<◌, ◌+◌, ◌-◌, ◌&&◌, ◌⊎◌, inl, inr, cond, true, false, Bool, List, [], ◌∷◌, ◌++◌, length, length-append, length-drop, length-take, drop, take, get_or, Option, None, Some, IsSome, refl, sym, ◌∙◌, ap, subst, arith, append_assoc, append-nil}
-use Rattle.std.specs.Prelude.{◌==◌, min}
+use Rattle.std.proofs.Common.{ℕ, suc, ◌≡◌, ◌≤◌, ◌<◌, ◌+◌, ◌-◌, ◌⊎◌, inl, inr, false, List, [], ◌∷◌, length, length-drop, drop, take, get_or, None, Some, sym, ◌∙◌, ap, subst, arith}
+use Rattle.std.specs.Prelude.{◌==◌}
 use Rattle.std.specs.Cmp.Lexicographic.{pointwise}
 use Rattle.std.proofs.lemmas.Bool.{cases_lt, and_cases, eqb-false}
-use Rattle.std.proofs.lemmas.List.{get_or_append_left, get_or-append_right, get_or-take, length-take-le}
-use Rattle.nb_tcp.specs.Order.{among, or_else, Contradict}
-use Rattle.nb_tcp.specs.Runs.{in_runs, IsNextAfter, AreKnown, Puts, Contradicts, Moves}
-use Rattle.nb_tcp.proofs.ByteLemmas.{or_else_none, or_else_assoc, some_stays, among_in, among_low, among_either, among_back, among_front, among_more, among_take, inside}
-
-pub puts_more : (runs mid new : List (ℕ × List ℕ)) (place : ℕ) (bytes : List ℕ) (n more : ℕ) → Puts runs place bytes n mid
-    → Puts mid (place + n) (drop n bytes) more new → Puts runs place bytes (n + more) new
-puts_more runs mid new place bytes n more first then i =
-    then i ∙ (ap (λ z. or_else z (among more (place + n) (drop n bytes) i)) (first i)
-    ∙ (or_else_assoc (in_runs runs i) (among n place bytes i) (among more (place + n) (drop n bytes) i)
-    ∙ ap (λ z. or_else (in_runs runs i) z) (among_more n more place bytes i)))
-
-pub puts_none : (runs : List (ℕ × List ℕ)) (place : ℕ) (bytes : List ℕ) → Puts runs place bytes 0 runs
-puts_none runs place bytes i = grind (arith, or_else_none)
+use Rattle.std.proofs.lemmas.List.{get_or-take, length-take-le}
+use Rattle.nb_tcp.specs.Order.{among, or_else}
+use Rattle.nb_tcp.specs.Runs.{in_runs, AreKnown, Puts, Contradicts}
+use Rattle.nb_tcp.proofs.ByteLemmas.{or_else_none, some_stays, among_in, among_either, among_back, among_front, inside}
 
 stays_by : (runs : List (ℕ × List ℕ)) (at : ℕ) (known bytes : List ℕ) (count i : ℕ) → AreKnown runs at known → count ≤ length known
     → (among count at bytes i ≡ None) ⊎ ((at ≤ i) × (i < at + count)) → in_runs runs i ≡ or_else (in_runs runs i) (among count at bytes i)
@@ -30,10 +20,6 @@ stays_by runs at known bytes count i k le (inr h) =
 pub puts_known : (runs : List (ℕ × List ℕ)) (at : ℕ) (known bytes : List ℕ) (count : ℕ) → AreKnown runs at known → count ≤ length known
     → Puts runs at bytes count runs
 puts_known runs at known bytes count k le i = stays_by runs at known bytes count i k le (among_either count at bytes i)
-
-pub puts_front : (runs new : List (ℕ × List ℕ)) (at : ℕ) (bytes : List ℕ) (count : ℕ) → count ≤ length bytes
-    → Puts runs at (take count bytes) (length (take count bytes)) new → Puts runs at bytes count new
-puts_front runs new at bytes count le h i = h i ∙ ap (λ z. or_else (in_runs runs i) z) (among_take count at bytes i le)
 
 -- ---- bytes that contradict
 agreed_by : (runs : List (ℕ × List ℕ)) (place : ℕ) (bytes : List ℕ) (n more : ℕ) → (Contradicts runs place bytes n → ⊥)
@@ -65,9 +51,6 @@ agreed_by runs place bytes n more first then h (inr le) = then (
 pub agreed_more : (runs : List (ℕ × List ℕ)) (place : ℕ) (bytes : List ℕ) (n more : ℕ) → (Contradicts runs place bytes n → ⊥)
     → (Contradicts runs (place + n) (drop n bytes) more → ⊥) → Contradicts runs place bytes (n + more) → ⊥
 agreed_more runs place bytes n more first then h = agreed_by runs place bytes n more first then h (cases_lt h.0 (place + n))
-
-pub agreed_none : (runs : List (ℕ × List ℕ)) (place : ℕ) (bytes : List ℕ) → Contradicts runs place bytes 0 → ⊥
-agreed_none runs place bytes h = let r : (place ≤ h.0) × (h.0 < place + 0) = inside 0 place bytes h.0 h.1.1 h.1.3 in omega (arith, r)
 
 pub contradicts_later : (runs : List (ℕ × List ℕ)) (place : ℕ) (bytes : List ℕ) (n : ℕ) → n ≤ length bytes
     → Contradicts runs (place + n) (drop n bytes) (length (drop n bytes)) → Contradicts runs place bytes (length bytes)
@@ -106,15 +89,6 @@ agrees runs at known bytes count k le same h =
     let y : get_or bytes (h.0 - at) 0 ≡ h.1.1 = grind (arith, sym b ∙ h.1.3) in
     h.1.4 (sym x ∙ (c ∙ y))
 
--- where none came before, none contradicts
-pub agrees_free : (runs : List (ℕ × List ℕ)) (at : ℕ) (bytes : List ℕ) (count : ℕ)
-    → ((i : ℕ) → at ≤ i → i < at + count → in_runs runs i ≡ None) → Contradicts runs at bytes count → ⊥
-agrees_free runs at bytes count free h =
-    let r : (at ≤ h.0) × (h.0 < at + count) = inside count at bytes h.0 h.1.1 h.1.3 in
-    let n : in_runs runs h.0 ≡ None = free h.0 r.0 r.1 in
-    let s : in_runs runs h.0 ≡ Some h.1.0 = h.1.2 in
-    absurd (cc)
-
 -- the place at which two lists of one length differ
 differ_by : (x y : ℕ) (xs ys : List ℕ) → (pointwise ◌==◌ xs ys ≡ false → (j : ℕ) × (j < length xs) × (get_or xs j 0 ≡ get_or ys j 0 → ⊥))
     → ((x == y) ≡ false) ⊎ (pointwise ◌==◌ xs ys ≡ false)
@@ -148,41 +122,6 @@ disagrees runs at known bytes count k le less e =
         λ q. r.2 (get_or-take count known r.0 0 lt ∙ (q ∙ sym (get_or-take count bytes r.0 0 lt))),
       ),
     )
-
--- ---- bytes that are handed on
-moved_by : (runs : List (ℕ × List ℕ)) (at next : ℕ) (xs bytes : List ℕ) → next ≡ at + length xs
-    → ((j : ℕ) → j < length xs → in_runs runs (at + j) ≡ Some (get_or xs j 0))
-    → AreKnown runs next bytes → (j : ℕ) → j < length (xs ++ bytes) → (j < length xs) ⊎ (length xs ≤ j)
-    → in_runs runs (at + j) ≡ Some (get_or (xs ++ bytes) j 0)
-moved_by runs at next xs bytes e before k j hi (inl lt) = before j lt ∙ ap (λ z. Some z) (sym (get_or_append_left xs bytes 0 j lt))
-moved_by runs at next xs bytes e before k j hi (inr le) =
-    let same : at + j ≡ next + (j - length xs) = omega (arith, e) in
-    ap (λ n. in_runs runs n) same
-    ∙ (k.each (j - length xs) (omega (arith, length-append xs bytes))
-    ∙ ap (λ z. Some z) (sym (get_or-append_right xs bytes (length xs) j 0 refl le)))
-
-pub moves_more : (runs : List (ℕ × List ℕ)) (at next : ℕ) (to full bytes : List ℕ) → Moves runs at to next full → AreKnown runs next bytes
-    → Moves runs at to (next + length bytes) (full ++ bytes)
-moves_more runs at next to full bytes m k = record {
-  moved = m.moved ++ bytes;
-  place = omega (arith, m.place, length-append m.moved bytes);
-  appended = ap (λ l. l ++ bytes) m.appended ∙ append_assoc to m.moved bytes;
-  each = λ j hi. moved_by runs at next m.moved bytes m.place m.each k j hi (cases_lt j (length m.moved));
-}
-
-pub moves_none : (runs : List (ℕ × List ℕ)) (at : ℕ) (to : List ℕ) → Moves runs at to at to
-moves_none runs at to = record {
-  moved = [];
-  place = omega arith;
-  appended = sym (append-nil to);
-  each = λ j hi. absurd (omega arith);
-}
-
--- ---- the same of the rest of the bytes
-pub puts_rest : (runs mid new : List (ℕ × List ℕ)) (place : ℕ) (bytes rest : List ℕ) (n more : ℕ) → rest ≡ drop n bytes
-    → Puts runs place bytes n mid → Puts mid (place + n) rest more new → Puts runs place bytes (n + more) new
-puts_rest runs mid new place bytes rest n more e first then = puts_more runs mid new place bytes n more first
-    (subst (λ (r : List ℕ). Puts mid (place + n) r more new) e then)
 
 pub agreed_rest : (runs : List (ℕ × List ℕ)) (place : ℕ) (bytes rest : List ℕ) (n more : ℕ) → rest ≡ drop n bytes
     → (Contradicts runs place bytes n → ⊥) → (Contradicts runs (place + n) rest more → ⊥) → Contradicts runs place bytes (n + more) → ⊥

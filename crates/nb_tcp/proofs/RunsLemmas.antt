@@ -1,5 +1,5 @@
 -- Runs in the order of their places: looked up, put, and the first one dropped.
-use Rattle.std.proofs.Common.{ℕ, zero, suc, ◌≡◌, ◌≤◌, ◌<◌, ◌+◌, ◌-◌, ◌&&◌, ◌⊎◌, inl, inr, cond, not, Less, Greater, true, false, Bool, List, [], ◌∷◌, ◌++◌, length, take, drop, length-drop, get_or, Option, None, Some, IsSome, refl, sym, ◌∙◌, ap, subst, arith}
+use Rattle.std.proofs.Common.{ℕ, ◌≡◌, ◌≤◌, ◌<◌, ◌+◌, ◌-◌, ◌&&◌, ◌⊎◌, inl, inr, cond, not, Less, Greater, true, false, List, [], ◌∷◌, ◌++◌, length, take, drop, length-drop, get_or, Option, None, Some, IsSome, refl, sym, ◌∙◌, ap, subst, arith}
 use Rattle.std.specs.Ordering.{nat_cmp, is_lt, is_le, match_ordering}
 use Rattle.std.specs.declared.ops.Bound.TheVariants.{Included, Unbounded}
 use Rattle.std.specs.BTreeMap.{insert_entry}
@@ -289,10 +289,6 @@ rest_are_runs runs rest run h e =
 pub rest_charge : (runs rest : List (ℕ × List ℕ)) (run : ℕ × List ℕ) → runs ≡ run ∷ rest
     → charge_of runs ≡ length run.1 + RUN_COST + charge_of rest
 rest_charge runs rest run e = ap charge_of e
-
-pub rest_is : (runs rest : List (ℕ × List ℕ)) (run : ℕ × List ℕ) (i : ℕ) → runs ≡ run ∷ rest → run.0 + length run.1 ≤ i
-    → in_runs rest i ≡ in_runs runs i
-rest_is runs rest run i e le = sym (ap (λ (l : List (ℕ × List ℕ)). in_runs l i) e ∙ after_first run rest i le)
 
 pub put_is : (runs new : List (ℕ × List ℕ)) (at : ℕ) (bytes value : List ℕ) → AreRuns 0 runs → 0 < length bytes → at + length bytes ≤ LAST
     → ((i : ℕ) → at ≤ i → i < at + length bytes → in_runs runs i ≡ None) → value ≡ bytes → new ≡ insert_entry nat_cmp runs at value

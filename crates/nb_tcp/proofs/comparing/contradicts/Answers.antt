@@ -1,4 +1,4 @@
-use Rattle.std.proofs.Common.{arith, refl, rules}
+use Rattle.std.proofs.Common.{refl, rules}
 use Rattle.std.proofs.lemmas.List.{take_rest}
 use Rattle.nb_tcp.proofs.PartLemmas.{agreed_rest, contradicts_rest}
 use Rattle.nb_tcp.proofs.comparing.contradicts.Goals as goal

@@ -1,4 +1,4 @@
-use Rattle.std.proofs.Common.{arith, sym, ◌∙◌}
+use Rattle.std.proofs.Common.{sym, ◌∙◌}
 use Rattle.nb_tcp.proofs.RunsLemmas.{none_to, last_to, past_there, known_there}
 use Rattle.nb_tcp.proofs.runs.Runs.known_at.Goals as goal
 

@@ -23,7 +23,7 @@ run: build
 
 # Prove and build the programs, and print their versions.
 build:
-	tools/program
+	tools/program nbt nbt_look
 
 # Build the program without proofs, and replay the same capture: a first look. A built program needs the proofs.
 try:

@@ -113,7 +113,7 @@ def is_plain(row):
 def line_of(row, state):
     """The line of a row, if there is one."""
     second, _, rest = row['frame.time_epoch'].partition('.')
-    at = int(second) * BILLION + int(rest.ljust(9, '0')[:9])
+    at = int(second) * BILLION + int(rest.ljust(9, '0')[:9]) if second else None
     if state['first'] is None:
         state['first'] = at
     if not is_plain(row):
@@ -127,7 +127,7 @@ def line_of(row, state):
     label = ''.join(map(shown, name.encode(errors='surrogateescape'))) if name not in ('', 'unknown') else row['frame.interface_id']
     state['label'] = state['label'] or label
     source, target = (place(row['ip.' + each] or row['ipv6.' + each], port, service) for each, port in (('src', ports[1]), ('dst', ports[0])))
-    cells = [row['frame.number'], since(at - state['first']), source + ('' if label == state['label'] else '%' + label), target]
+    cells = [row['frame.number'], '-' if at is None else since(at - state['first']), source + ('' if label == state['label'] else '%' + label), target]
     state['widths'] = [max(width, len(each)) for width, each in zip(state['widths'], cells)]
     number, time, start, end = state['widths']
     return ['%*s %*s %-*s %-*s %s' % (number, cells[0], time, cells[1], start, cells[2], end, cells[3], phrase)]

@@ -31,11 +31,13 @@ from random_files import PACKET, SIMPLE_PACKET, block, changed, file_of, option,
 from served import Program, Run, Served, compiled
 from wire import QUERY, ethernet, interface, pcap_header, section, sent, written
 
+SECTION_TYPE = section()[:4]
 # An interface in a cell; the page knows none.
 LABEL = re.compile(r'%\S+')
 SIZES = 1, 7, 4_095, 4_096
-# The most memory of a run, in kB, with the two MB of GNU time.
-ROOM = 8_000
+# The most memory of a run, in kB, with the two MB of GNU time; and where a file describes as many interfaces as it may, with names.
+ROOM, DESCRIBED = 8_000, 32_000
+UNKNOWN = 'neither pcap nor pcapng: give what tcpdump -w or Wireshark wrote; nbt show reads captures as text'
 
 
 def main():
@@ -81,10 +83,11 @@ class Listed:
         self.why = done.stderr.decode(errors='surrogateescape').partition(f'{path}: ')[2].strip()
 
 
-def compared(listed, wanted, most, what):
-    """Holds the lines of the first frames, their columns squeezed, beside others."""
-    given = {number: ' '.join(line.split()) for number, line in listed.lines.items() if number <= most}
-    wanted = {number: ' '.join(line.split()) for number, line in wanted.items() if number <= most}
+def compared(listed, wanted, most, what, labels=False):
+    """Holds the lines of the first frames, their columns squeezed, beside others, with or without the names of interfaces."""
+    squeezed = lambda line: ' '.join((line if labels else LABEL.sub('', line)).split())
+    given = {number: squeezed(line) for number, line in listed.lines.items() if number <= most}
+    wanted = {number: squeezed(line) for number, line in wanted.items() if number <= most}
     differing = [(given.get(each), wanted.get(each)) for each in sorted(given.keys() | wanted.keys()) if given.get(each) != wanted.get(each)]
     equal(differing[:1], [], what)
 
@@ -98,10 +101,16 @@ def beside_tshark(program, paths):
         wanted = {int(each['frame.number']): line for each in rows for line in line_of(each, state)}
         others = {int(each['frame.number']) for each in rows} - {int(each['frame.number']) for each in plain}
         listed.lines = {number: line for number, line in listed.lines.items() if number not in others}
-        compared(listed, wanted, min(listed.frames, len(rows)), f'{os.path.basename(path)} by tshark')
+        # tshark numbers the interfaces of each section anew.
+        compared(listed, wanted, min(listed.frames, len(rows)), f'{os.path.basename(path)} by tshark', labels=has_one_section(path))
         if listed.frames != len(rows):
             apart[('nbt-look: ' + re.sub('[0-9]+', 'N', listed.why)) if listed.frames < len(rows) else 'tshark'] += 1
     told(apart)
+
+
+def has_one_section(path):
+    with open(path, 'rb') as file:
+        return file.read().count(SECTION_TYPE) < 2
 
 
 def beside_page(program, room, paths):
@@ -113,7 +122,6 @@ def beside_page(program, room, paths):
     apart = collections.Counter()
     for path, said in zip(paths, map(json.loads, done.stdout.splitlines())):
         listed = Listed(program, path)
-        listed.lines = {number: LABEL.sub('', line) for number, line in listed.lines.items()}
         state = {'first': int(said['first']) if said['first'] else None, 'label': None, 'widths': [5, 9, 15, 15]}
         wanted = {each['frame']: line for each in said['datagrams'] for line in line_of(row_of(each), state)}
         compared(listed, wanted, min(listed.frames, said['frames']), f'{os.path.basename(path)} by the page')
@@ -246,7 +254,7 @@ def hostile(program, room):
             ('four GB', record(0xffffffff, frame), 'too long a frame or block at byte 24, after frame 0', 1),
             ('the most bytes', record(262_144, frame), 'cut at byte 24, after frame 0', 1),
             ('one more', record(262_145, bytes(300_000)), 'too long a frame or block at byte 24, after frame 0', 1),
-            ('a block of eight bytes', begin + struct.pack('<LL', 6, 8), 'bad block at byte 48, after frame 0', 1),
+            ('a block of eight bytes', begin + struct.pack('<LL', 6, 8) + bytes(20), 'bad block at byte 48, after frame 0', 1),
             ('a block of thirteen', begin + struct.pack('<LL', 6, 13) + bytes(20), 'bad block at byte 48, after frame 0', 1),
             ('a block of four GB', begin + struct.pack('<LL', 6, 0xfffffffc) + bytes(99), 'too long a frame or block at byte 48, after frame 0', 1),
             ('another of four GB', begin + struct.pack('<LL', 99, 0xfffffffc) + bytes(99), 'cut at byte 48, after frame 0', 1),
@@ -254,7 +262,7 @@ def hostile(program, room):
             ('more than the block', packet(0, 400, frame), 'bad block at byte 48, after frame 0', 1),
             ('no such interface', packet(1, len(frame), frame), 'packet of an unknown interface at byte 48, after frame 0', 1),
             ('no interface', section() + block(SIMPLE_PACKET, bytes(8), '<'), 'packet of an unknown interface at byte 28, after frame 0', 1),
-            ('no order', b'\x0a\x0d\x0d\x0a' + bytes(24), 'bad block at byte 0, after frame 0', 1),
+            ('no order', section()[:4] + bytes(24), UNKNOWN, 1),
             ('an option too long', section() + interface(options=struct.pack('<HH', 2, 400)), 'bad block at byte 28, after frame 0', 1),
             ('interfaces', section() + interface() * 65_537, 'too many interfaces at byte 1310748, after frame 0', 1),
             ('names', section() + interface(options=option(2, bytes(250), '<')) * 65_536 + packet(0, len(frame), frame)[48:], '', 0)):
@@ -264,7 +272,7 @@ def hostile(program, room):
         equal((done.stderr.decode(), done.returncode), (said, status), name)
         with open(f'{room}/room', encoding='utf-8') as kept:
             most = int(kept.read().split()[-1])
-        check(most <= ROOM, f'{name}: {most} kB')
+        check(most <= (DESCRIBED if len(data) > 10**6 else ROOM), f'{name}: {most} kB')
     vanishing(program, room)
 
 

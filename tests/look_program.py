@@ -31,8 +31,8 @@ from random_pcap import pcap_of
 from wire import QUERY, RESPONSE, ethernet, pcap, sent, spaced, written
 
 FIELDS = ('frame.number', 'frame.time_epoch', 'frame.interface_name', 'frame.interface_id', 'frame.len', 'frame.cap_len', 'frame.protocols',
-          'ip.src', 'ip.dst', 'ipv6.src', 'ipv6.dst', 'ip.flags.mf', 'ip.frag_offset', 'ipv6.fraghdr.offset', 'udp.srcport', 'udp.dstport', 'udp.length',
-          'udp.checksum', 'udp.payload')
+          'ip.src', 'ip.dst', 'ipv6.src', 'ipv6.dst', 'ip.flags.mf', 'ip.frag_offset', 'ipv6.fraghdr.offset', 'ipv6.fraghdr.more', 'udp.srcport', 'udp.dstport',
+          'udp.length', 'udp.checksum', 'udp.payload')
 SERVICES = 137, 138
 BILLION = 10**9
 # A line of a packet; an address of the form that RFC 4291 section 2.5.5.1 gives up, which tshark writes with dots.
@@ -138,7 +138,9 @@ def shown(byte):
 
 
 def is_fragment(row):
-    return row['ip.flags.mf'] in ('1', 'True') or row['ip.frag_offset'] not in ('', '0') or row['ipv6.fraghdr.offset'] != ''
+    """Whether a frame has a fragment of IP: one that begins at 0 and goes on nowhere is whole (RFC 6946)."""
+    said = [each for key in ('ip.flags.mf', 'ip.frag_offset', 'ipv6.fraghdr.offset', 'ipv6.fraghdr.more') for each in row[key].split(',')]
+    return any(each not in ('', '0', 'False') for each in said)
 
 
 def phrase_of(row, service):

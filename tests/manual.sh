@@ -133,7 +133,7 @@ nbt build r|registration refresh release response request retarget
 nbt build --broadcast que|query
 nbt build --b|--broadcast
 nbt help m|merge
-nbt-look --k|--kind
+nbt-look --n|--name
 nbt-look --p|--port
 nbt-look-tshark --k|--kind
 nbt-look-tshark --fr|--frame

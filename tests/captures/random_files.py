@@ -104,7 +104,7 @@ def cut(rng, data):
 
 def classic(rng):
     order, unit, link = rng.choice('<>'), rng.choice((1_000, 1)), rng.choice(LINKS)
-    now, upper = START * BILLION, rng.choice((0, 0, 0x14000000))
+    now, upper = START * BILLION, rng.choice((0, 0, 0x30000000))
     yield struct.pack(order + 'LHHLLLL', 0xa1b2c3d4 if unit == 1_000 else 0xa1b23c4d, 2, 4, 0, 0, 262_144, upper | link), False
     for _ in range(rng.randrange(1, 12)):
         now = later(rng, now)

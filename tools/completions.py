@@ -15,7 +15,7 @@ TOOLS = 'nbt-look-tshark', 'nbt-pcap2cap', 'nbt-cap2pcap', 'nbt-dask', 'nbt-stat
 WRITTEN = 'Completion of nbt and its tools. tools/completions.py wrote it from their help texts.'
 
 COMMAND = re.compile(r'^  ([a-z]+) +(.*)', re.MULTILINE)
-OPTION = re.compile(r'^ +(?:-[a-zA-Z], )?(--[a-z-]+|-[a-z])(?: <([A-Z]+)>)?  +(.*)', re.MULTILINE)
+OPTION = re.compile(r'^ +(?:-[a-zA-Z], )?(--[a-z-]+|-[a-z])(?: <([A-Z][A-Z,.]*)>)?  +(.*)', re.MULTILINE)
 TOOL_OPTION = re.compile(r'(?<![-\w`])(--?[a-z][a-z-]*)(?: ([A-Z][A-Z=]*))?')
 PACKET = re.compile(r'([a-z]+)(?: and ([a-z]+))?(?= [A-Z]| \(the same\)|,|$)')
 

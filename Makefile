@@ -1,6 +1,7 @@
 # The commands of the README and of CONTRIBUTING.md.
 
 PROGRAM = crates/nbt/out/nbt
+LOOK = crates/nbt_look/out/nbt_look
 NAMES = 'FRED<20>'
 CAPTURE = examples/capture.txt
 SECONDS = 60
@@ -12,17 +13,17 @@ DIST = out/dist
 GATE =
 PLUGIN = out/nbt.so
 # The shell is given what users choose in the environment, whatever characters it has.
-export PROGRAM DESTDIR PREFIX DEB LIBRARY TARGETS DIST PLUGIN PLUGINS
+export PROGRAM LOOK DESTDIR PREFIX DEB LIBRARY TARGETS DIST PLUGIN PLUGINS
 
 .PHONY: run build try check test bench fuzz completions lists install uninstall deb lib install-lib uninstall-lib targets page wireshark install-wireshark fuzz-coverage dist
 
-# Prove and build the program, and replay a capture in a station with these names.
+# Prove and build the programs, nbt and nbt-look, and replay a capture in a station with these names.
 run: build
 	$(PROGRAM) replay $(NAMES) <$(CAPTURE)
 
-# Prove and build the program, and print its version.
+# Prove and build the programs, and print their versions.
 build:
-	tools/program
+	tools/program nbt nbt_look
 
 # Build the program without proofs, and replay the same capture: a first look. A built program needs the proofs.
 try:
@@ -49,30 +50,30 @@ bench: build
 fuzz: build
 	tests/fuzz.py --seconds $(SECONDS)
 
-# Write the completions for bash and zsh anew, from the help texts of the built program and of the tools.
-completions: $(PROGRAM)
-	tools/completions.py bash $(PROGRAM) >completions/nbt.bash
-	tools/completions.py zsh $(PROGRAM) >completions/_nbt
+# Write the completions for bash and zsh anew, from the help texts of the built programs and of the tools.
+completions: $(PROGRAM) $(LOOK)
+	tools/completions.py bash $(PROGRAM) $(LOOK) >completions/nbt.bash
+	tools/completions.py zsh $(PROGRAM) $(LOOK) >completions/_nbt
 
 # Write what several languages list alike anew, of include/nbt.h and tools/nbt_look/vocabulary.py.
 lists:
 	tools/lists.py --write
 
-# Put the program below PREFIX, with its tools, pages and completions; tools/installation has the list. It is built first where
-# it isn't there yet: after a change say make build.
-install: $(PROGRAM)
+# Put the programs below PREFIX, with their tools, pages and completions; tools/installation has the list. They are built first where
+# they aren't there yet: after a change say make build.
+install: $(PROGRAM) $(LOOK)
 	@tools/installation put program
 
-$(PROGRAM):
+$(PROGRAM) $(LOOK) &:
 	$(MAKE) build
 
 # Take away what install put below the same PREFIX. What install-lib put there stays.
 uninstall:
 	@tools/installation take program
 
-# Make a Debian package of the built program, its tools and pages. DEBFULLNAME and DEBEMAIL say who answers for it.
-deb: $(PROGRAM)
-	tools/deb "$$PROGRAM" "$$DEB"
+# Make a Debian package of the built programs, their tools and pages. DEBFULLNAME and DEBEMAIL say who answers for it.
+deb: $(PROGRAM) $(LOOK)
+	tools/deb "$$PROGRAM" "$$LOOK" "$$DEB"
 
 # Prove the library for C and build it: LIBRARY has libnbt.a, libnbt.so.0 and nbt.pc.
 lib:
@@ -125,5 +126,5 @@ $(TARGETS)/nbt.bc:
 
 # Make packages for people who haven't the kit, in DIST: for Debian, Python, Rust and JavaScript, and the page. GATE names a file with what make test
 # printed, whose last lines go into PROOF.
-dist: targets $(PROGRAM)
-	tools/dist "$$TARGETS" "$$LIBRARY" "$$PROGRAM" "$$DIST" $(GATE)
+dist: targets $(PROGRAM) $(LOOK)
+	tools/dist "$$TARGETS" "$$LIBRARY" "$$PROGRAM" "$$LOOK" "$$DIST" $(GATE)

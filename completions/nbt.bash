@@ -27,7 +27,8 @@ complete -F _nbt nbt
 _nbt_tool() {
     local words=''
     case ${1##*/} in
-    nbt-look) words='-i --live --summary --frame --json --html --name --host --port --kind --time --color --quiet --version -r --help' ;;
+    nbt-look) words='--quiet --name --host --port -c --time --help --version' ;;
+    nbt-look-tshark) words='-i --live --summary --frame --json --html --name --host --port --kind --time --color --quiet --version -r --help' ;;
     nbt-pcap2cap) words='--bare --no-ticks --cut --quiet --port --live -i --help' ;;
     nbt-cap2pcap) words='--help' ;;
     nbt-dask) words='--force --program --shard-bytes --by-source --tables --quiet --scheduler --workers --send --wait --help' ;;
@@ -36,4 +37,4 @@ _nbt_tool() {
     COMPREPLY=()
     [[ $2 != -* ]] || COMPREPLY=($(compgen -W "$words" -- "$2"))
 }
-complete -o default -F _nbt_tool nbt-look nbt-pcap2cap nbt-cap2pcap nbt-dask nbt-station
+complete -o default -F _nbt_tool nbt-look nbt-look-tshark nbt-pcap2cap nbt-cap2pcap nbt-dask nbt-station

@@ -1,8 +1,12 @@
 #!/usr/bin/env python3
-"""What tools/nbt-look and the plugin for Wireshark cost beside tshark.  Usage: tests/bench_tools.py [PLUGIN [PACKETS [PAIRS]]]
+"""What nbt-look, nbt-look-tshark and the plugin for Wireshark cost beside tshark.  Usage: tests/bench_tools.py [PLUGIN [PACKETS [PAIRS]]]
 
-Of so many packets (100,000) of tests/captures/big_pcap.py. First the processor seconds of nbt-look, with those of tshark and nbt,
-beside those of tshark alone with the fields that nbt-look asks it for; those of the program of crates/nbt_look, where it is built.
+Of 724,638 packets of tests/captures/big_pcap.py what the list of crates/nbt_look's program costs, where that is built: processor seconds beside
+those of tshark, which prints the same fields; instructions beside those of the plain program of tests/plain/, which prints the same lines; and how
+much memory it takes, of a file ten times as long too.
+
+Then, of so many packets (100,000), the processor seconds of nbt-look-tshark, with those of tshark and nbt, beside those of tshark alone with the
+fields that it asks for.
 
 Then, where PLUGIN is there, out/nbt.so without it, the list that tshark prints with it and without, in one pass and in two, its frame
 numbers and its trees; and of as many packets at other ports. A run with the plugin and one without it go on at the same time, so that
@@ -22,30 +26,59 @@ sys.dont_write_bytecode = True
 HERE = os.path.dirname(os.path.abspath(__file__))
 TOOLS = os.path.join(HERE, '..', 'tools')
 sys.path[1:1] = [f'{HERE}/bench', f'{HERE}/lib', TOOLS]
-from bench_rows import HEADING, Row, heading, least, processor_seconds, show
+import plain_program
+from bench_rows import HEADING, Row, heading, instructions, least, peak, printed, processor_seconds, show
 from nbt_look.frames import FIELDS, STATISTICS
 from nbt_pcap.arguments import SERVICES
 from nbt_pcap.tshark import command_of
-from parts import finish
+from parts import check, finish
 from wire import QUERY, SHORT, TCP, ethernet, ip, pcap, sent, spaced, tcp, written
 
 # How many times tshark's own cost, and how many bytes a packet.
-LIST, OTHER_PORTS, BYTES, PROVED = 1.2, 1.05, 200, 1 / 40
+LIST, OTHER_PORTS, BYTES = 1.2, 1.05, 200
 NOBODY = 65_534
+# Of the program of crates/nbt_look: how many packets, how many times tshark's seconds and the plain program's instructions, and how much memory.
+PROGRAM, LONG = f'{HERE}/../crates/nbt_look/out/nbt_look', 724_638
+PROVED, PLAIN, MEGABYTES, TIMES = 1 / 40, 2, 8, 10
+SHOWN = 'frame.number', 'frame.time_relative', 'ip.src', 'udp.srcport', 'ip.dst', 'udp.dstport', 'udp.payload'
+
+
+def of_program(folder):
+    """The rows of the list of crates/nbt_look's program."""
+    path, plain = f'{folder}/long.pcap', plain_program.compiled(folder)
+    subprocess.run([f'{HERE}/captures/big_pcap.py', str(LONG), path], check=True)
+    fields = [word for each in SHOWN for word in ('-e', each)]
+    alone = processor_seconds(['tshark', '-n', '-r', path, '-Y', 'udp.port in {137, 138}', '-T', 'fields', *fields], path)
+    yield Row("tshark, the list's fields", seconds=alone)
+    taken = least(processor_seconds, [PROGRAM, path], path)
+    yield Row('nbt-look', seconds=taken, of=taken / alone, most=PROVED, said=f'1 of {alone / taken:.0f}')
+    if plain:
+        check(printed([plain, 'look'], path) == printed([PROGRAM, '-'], path), 'the plain program prints the same list')
+        one, other = (instructions(command, path) for command in ([PROGRAM, '-'], [plain, 'look']))
+        yield Row('nbt-look beside plain Rust', counted=one and one // LONG, of=one and one / other, most=PLAIN)
+    most = peak([PROGRAM, '-'], path)
+    yield Row('nbt-look: MB of memory', of=most and most / 1_000, most=MEGABYTES)
+    more = peak_of_several(path)
+    yield Row(f'nbt-look: MB of memory, of {TIMES} times the file', of=more and more / 1_000, most=MEGABYTES)
+    check(not most or abs(more - most) < 200, f'nbt-look: {most} kB, and {more} of {TIMES} times the file')
+    os.remove(path)
+
+
+def peak_of_several(path):
+    """The most kB of a list of the file's frames so many times over."""
+    repeated = f'{{ cat "$1"; for _ in $(seq {TIMES - 1}); do tail -c +25 "$1"; done; }} | /usr/bin/time -f %M "$0" - 2>&1 >/dev/null'
+    done = subprocess.run(['sh', '-c', repeated, PROGRAM, path], stdout=subprocess.PIPE, check=True)
+    return int(done.stdout.split()[-1]) if os.path.exists('/usr/bin/time') else None
 
 
 def of_look(path):
-    """The rows of nbt-look."""
+    """The rows of nbt-look-tshark."""
     options = types.SimpleNamespace(ports=[(each, each) for each in SERVICES], file=path, live=False, interface=None)
     alone = least(processor_seconds, command_of(options, FIELDS, STATISTICS), path)
     yield Row('tshark alone', seconds=alone)
     for words in ([], ['--json', '--quiet'], ['--summary']):
-        taken = least(processor_seconds, [f'{TOOLS}/nbt-look', *words, path], path)
-        yield Row(' '.join(['nbt-look', *words]), seconds=taken, of=taken / alone)
-    program = f'{HERE}/../crates/nbt_look/out/nbt_look'
-    if os.path.exists(program):
-        taken = least(processor_seconds, [program, path], path)
-        yield Row('the program of crates/nbt_look', seconds=taken, of=taken / alone, most=PROVED)
+        taken = least(processor_seconds, [f'{TOOLS}/nbt-look-tshark', *words, path], path)
+        yield Row(' '.join(['nbt-look-tshark', *words]), seconds=taken, of=taken / alone)
 
 
 def home_with(folder, plugin):
@@ -96,6 +129,11 @@ def main():
     packets, pairs = int(packets), int(pairs)
     with tempfile.TemporaryDirectory() as folder:
         os.chmod(folder, 0o755)
+        if os.path.exists(PROGRAM):
+            print(f'{LONG:,} packets')
+            heading(*HEADING)
+            show(of_program(folder))
+            print()
         path, other = f'{folder}/big.pcap', f'{folder}/other.pcap'
         subprocess.run([f'{HERE}/captures/big_pcap.py', str(packets), path], check=True)
         print(f'{packets:,} packets, {pairs} pairs, load {os.getloadavg()[0]:.1f} of {os.cpu_count()} processors')

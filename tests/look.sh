@@ -1,5 +1,5 @@
 #!/usr/bin/env bash
-# tools/nbt-look: what it prints of captures, by the samples of tests/look/cases.txt, beside tshark and beside an independent reading, and of
+# tools/nbt-look-tshark: what it prints of captures, by the samples of tests/look/cases.txt, beside tshark and beside an independent reading, and of
 # what isn't one. Usage: tests/look.sh [PROGRAM [PART..]]; its last line is 'N passed, M failed, K skipped'. Of its parts those that are named
 # are run. Where tshark isn't installed all of it is left out.
 set -uo pipefail
@@ -14,10 +14,10 @@ prepared() {
     ln -s "$here/look/tshark.sh" "$room/bin/tshark"
     mkdir "$files/elsewhere"
     "$here/captures/look_captures.py" "$files"
-    cp -r "$here"/../tools/{nbt_look,nbt_pcap,nbt_shards,nbt-look} "$files/elsewhere"
+    cp -r "$here"/../tools/{nbt_look,nbt_pcap,nbt_shards,nbt-look-tshark} "$files/elsewhere"
     echo '<p><script type="application/octet-stream" id="given" data-name=""></script>' >"$files/elsewhere/nbt.html"
     printf 'no\tcapture\n' >"$files/other"
-    nbt-look "$here/../examples/office.pcap" >"$files/list"
+    nbt-look-tshark "$here/../examples/office.pcap" >"$files/list"
     nbt-pcap2cap --quiet "$here/../examples/office.pcap" >"$files/capture"
     # numbers: those of the frames of a list. terminal COLUMNS COMMAND..: what a command shows on a terminal of so many columns.
     printf '#!/bin/sh\nawk '\''/^ *[0-9]+ +[-0-9.]+ / { printf "%%s%%s", between, $1; between = " " } END { if (between) print "" }'\''\n' >"$room/bin/numbers"
@@ -54,9 +54,9 @@ growing() {
     local each small large
     for each in 10000 30000; do "$here/captures/big_pcap.py" $each "$room/$each.pcap"; done
     for each in '12000 ' '14500 --summary' '12000 --json'; do
-        small=$(peak nbt-look ${each#* } --quiet "$room/10000.pcap") large=$(peak nbt-look ${each#* } --quiet "$room/30000.pcap")
+        small=$(peak nbt-look-tshark ${each#* } --quiet "$room/10000.pcap") large=$(peak nbt-look-tshark ${each#* } --quiet "$room/30000.pcap")
         [ "${small% *}" = 0 ] && [ "${large% *}" = 0 ] && [ "${large#* }" -lt $((${small#* } + ${each% *})) ] && [ "${large#* }" -lt 150000 ]
-        count $? "nbt-look ${each#* }, peak of memory: $small and $large"
+        count $? "nbt-look-tshark ${each#* }, peak of memory: $small and $large"
     done
 }
 
@@ -64,15 +64,15 @@ growing() {
 live() {
     if ! ended tshark -i lo -a duration:0 >"$room/output" 2>&1; then
         skipped=$((skipped + 1))
-        echo 'skipped: nbt-look -i lo, 1 case (tshark may not listen to lo here)'
+        echo 'skipped: nbt-look-tshark -i lo, 1 case (tshark may not listen to lo here)'
         return
     fi
     (sleep 2; for each in {0..17}; do printf abc >/dev/udp/127.0.0.1/$((137 + each % 2)); sleep 0.5; done) &
-    timeout --preserve-status -s INT 12 nbt-look -i lo --host 127.0.0.1 >"$room/output" 2>"$room/errors"
-    [ $? -eq 0 ] && [ "$(cat "$room/errors")" = 'nbt-look: listening on lo; Ctrl-C ends it' ] &&
+    timeout --preserve-status -s INT 12 nbt-look-tshark -i lo --host 127.0.0.1 >"$room/output" 2>"$room/errors"
+    [ $? -eq 0 ] && [ "$(cat "$room/errors")" = 'nbt-look-tshark: listening on lo; Ctrl-C ends it' ] &&
         [ "$(grep -c 'refused: truncated' "$room/output")" -ge 2 ] &&
         grep -qxE '([0-9]+) frames, \1 packets, \1 malformed, 0 left out; \1 shown' "$room/output"
-    count $? "nbt-look -i lo: $(cat "$room/errors" "$room/output")"
+    count $? "nbt-look-tshark -i lo: $(cat "$room/errors" "$room/output")"
     wait
 }
 

@@ -31,8 +31,8 @@ from random_pcap import pcap_of
 from wire import QUERY, RESPONSE, ethernet, pcap, sent, spaced, written
 
 FIELDS = ('frame.number', 'frame.time_epoch', 'frame.interface_name', 'frame.interface_id', 'frame.len', 'frame.cap_len', 'frame.protocols',
-          'ip.src', 'ip.dst', 'ipv6.src', 'ipv6.dst', 'ip.flags.mf', 'ip.frag_offset', 'ipv6.fraghdr.offset', 'udp.srcport', 'udp.dstport', 'udp.length',
-          'udp.checksum', 'udp.payload')
+          'ip.src', 'ip.dst', 'ipv6.src', 'ipv6.dst', 'ip.flags.mf', 'ip.frag_offset', 'ipv6.fraghdr.offset', 'ipv6.fraghdr.more', 'udp.srcport', 'udp.dstport',
+          'udp.length', 'udp.checksum', 'udp.payload')
 SERVICES = 137, 138
 BILLION = 10**9
 # A line of a packet; an address of the form that RFC 4291 section 2.5.5.1 gives up, which tshark writes with dots.
@@ -113,7 +113,7 @@ def is_plain(row):
 def line_of(row, state):
     """The line of a row, if there is one."""
     second, _, rest = row['frame.time_epoch'].partition('.')
-    at = int(second) * BILLION + int(rest.ljust(9, '0')[:9])
+    at = int(second) * BILLION + int(rest.ljust(9, '0')[:9]) if second else None
     if state['first'] is None:
         state['first'] = at
     if not is_plain(row):
@@ -127,7 +127,7 @@ def line_of(row, state):
     label = ''.join(map(shown, name.encode(errors='surrogateescape'))) if name not in ('', 'unknown') else row['frame.interface_id']
     state['label'] = state['label'] or label
     source, target = (place(row['ip.' + each] or row['ipv6.' + each], port, service) for each, port in (('src', ports[1]), ('dst', ports[0])))
-    cells = [row['frame.number'], since(at - state['first']), source + ('' if label == state['label'] else '%' + label), target]
+    cells = [row['frame.number'], '-' if at is None else since(at - state['first']), source + ('' if label == state['label'] else '%' + label), target]
     state['widths'] = [max(width, len(each)) for width, each in zip(state['widths'], cells)]
     number, time, start, end = state['widths']
     return ['%*s %*s %-*s %-*s %s' % (number, cells[0], time, cells[1], start, cells[2], end, cells[3], phrase)]
@@ -138,7 +138,9 @@ def shown(byte):
 
 
 def is_fragment(row):
-    return row['ip.flags.mf'] in ('1', 'True') or row['ip.frag_offset'] not in ('', '0') or row['ipv6.fraghdr.offset'] != ''
+    """Whether a frame has a fragment of IP: one that begins at 0 and goes on nowhere is whole (RFC 6946)."""
+    said = [each for key in ('ip.flags.mf', 'ip.frag_offset', 'ipv6.fraghdr.offset', 'ipv6.fraghdr.more') for each in row[key].split(',')]
+    return any(each not in ('', '0', 'False') for each in said)
 
 
 def phrase_of(row, service):

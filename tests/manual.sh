@@ -6,7 +6,7 @@
 set -uo pipefail
 . "$(dirname "$0")/lib/counting.sh"
 program=$(realpath "${1:-$here/../crates/nbt/out/nbt}")
-tools=(nbt-look nbt-pcap2cap nbt-cap2pcap nbt-dask nbt-station)
+tools=(nbt-look nbt-look-tshark nbt-pcap2cap nbt-cap2pcap nbt-dask nbt-station)
 
 # Pages of other programs needn't be installed.
 lint() {
@@ -23,7 +23,7 @@ lint() {
 installing() {
     (
         PATH=$no_rt
-        "$(command -v make)" -s -C "$here/.." "$1" PROGRAM="$program" LIBRARY="$room/lib" \
+        "$(command -v make)" -s -C "$here/.." "$1" PROGRAM="$program" LOOK="$look" LIBRARY="$room/lib" \
             DESTDIR="$room/root" PREFIX="$2"
     ) >"$room/output" 2>&1
     count $? "make $1 PREFIX=$2, without rt: $(cat "$room/output")"
@@ -43,7 +43,7 @@ without_rt() {
     done
 }
 
-# usable PREFIX: the program and its tools, installed below it, in another folder: each prints its help, which says its installed name
+# usable PREFIX: the programs and their tools, installed below it, in another folder: each prints its help, which says its installed name
 # alone, and has a page with each option of it; pages and completions are there, and nothing that Python leaves.
 usable() {
     local at=$room/root$1 tool option
@@ -133,8 +133,10 @@ nbt build r|registration refresh release response request retarget
 nbt build --broadcast que|query
 nbt build --b|--broadcast
 nbt help m|merge
-nbt-look --k|--kind
-nbt-look --fr|--frame
+nbt-look --n|--name
+nbt-look --p|--port
+nbt-look-tshark --k|--kind
+nbt-look-tshark --fr|--frame
 nbt-pcap2cap --b|--bare
 nbt-pcap2cap -|--bare --no-ticks --cut --quiet --port --live -i --help
 nbt-cap2pcap --|--help
@@ -165,9 +167,9 @@ written() {
     (cd "$room" && PYTHONPATH=$here/../tools python3 -c 'import contextlib, functools, sys, completions
 completions.help_of = functools.lru_cache(None)(completions.help_of)
 for shell in "bash", "zsh":
-    sys.argv = ["completions.py", shell, sys.argv[-1]]
+    sys.argv = ["completions.py", shell, *sys.argv[-2:]]
     with open(f"written.{shell}", "w") as file, contextlib.redirect_stdout(file):
-        completions.main()' "$program")
+        completions.main()' "$program" "$look")
 }
 
 # completion SHELL FILE: the shell offers these words, and tools/completions.py writes the file anew.
@@ -189,11 +191,11 @@ completion() {
 package() {
     local tool version package
     DEBFULLNAME='A tester' DEBEMAIL=tester@example.org DPKG_DEB_COMPRESSOR_TYPE=none \
-        make -s -C "$here/.." deb PROGRAM="$program" DEB="$room/deb" >"$room/output" 2>&1
+        make -s -C "$here/.." deb PROGRAM="$program" LOOK="$look" DEB="$room/deb" >"$room/output" 2>&1
     count $? "make deb: $(cat "$room/output")"
     package=$(echo "$room"/deb/nbt_*_amd64.deb)
     version=$(sed -nE '/^## /{ s/^## ([0-9.]+), [0-9-]{10}$/\1/p; q; }' "$here/../CHANGELOG.md")
-    [ "$(dpkg-deb -f "$package" Version)" = "$version" ] && [ "$("$program" --version)" = "nbt $version" ]
+    [ "$(dpkg-deb -f "$package" Version)" = "$version" ] && [ "$("$program" --version; "$look" --version)" = "nbt $version"$'\n'"nbt-look $version" ]
     count $? "one version: $version in CHANGELOG.md"
     dpkg-deb -x "$package" "$room/unpacked"
     for tool in nbt "${tools[@]}"; do

@@ -43,7 +43,7 @@ PARTS = ('modules', 'rows', 'names', 'faults', 'filters', 'deliveries', 'taps', 
 
 def modules():
     """The modules that read files, by node's own runner; their types; the cases of tests/summary/, and random
-    networks beside nbt-look."""
+    networks beside nbt-look-tshark."""
     with tempfile.TemporaryDirectory() as folder:
         bundled(folder, *glob.glob('*.test.mjs', root_dir=f'{TOP}/page/tests'))
         said = subprocess.run(['node', '--test', '--test-reporter=tap', folder], capture_output=True, text=True).stdout

@@ -216,7 +216,7 @@ inputs() {
     head -n 3400 wide | save >small
 
     # What `make install` puts there, the tools compiled.
-    make -s -C "$here/.." -o build install PROGRAM="$program" DESTDIR="$room" PREFIX=/installed
+    make -s -C "$here/.." -o build install PROGRAM="$program" LOOK="$look" DESTDIR="$room" PREFIX=/installed
     count $? 'make install'
     python3 -S -E -m compileall -q $tools/nbt_shards $tools/nbt_pcap
     save <gaps >gaps.table

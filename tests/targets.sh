@@ -103,7 +103,7 @@ missing() {
     says 'no cross compiler' 'install gcc-aarch64-linux-gnu' env PATH="$few" "$BASH" "$top/tools/targets" check "$room/out2"
     ln -s /bin/true "$few/llvm-symbolizer"
     says 'no clang with libFuzzer' 'no clang has libFuzzer: install ' env -u FUZZ_CLANG PATH="$few" "$python" "$here/fuzz_coverage.py" --module "$out/nbt.bc"
-    says 'no dpkg-deb' 'dpkg-deb is missing: install dpkg' env PATH="$few" "$python" "$top/tools/dist" "$out" "$out/lib" "$program" "$room/dist4"
+    says 'no dpkg-deb' 'dpkg-deb is missing: install dpkg' env PATH="$few" "$python" "$top/tools/dist" "$out" "$out/lib" "$program" "$look" "$room/dist4"
     env -u CI PATH="$few" "$BASH" "$here/targets.sh" "$program" >"$room/output" 2>&1
     count $? 'without tools nothing is tried, and nothing fails'
     ! env CI=true PATH="$few" "$BASH" "$here/targets.sh" "$program" >"$room/output" 2>&1 && grep -q '^failed: all: CI has to install aarch64-linux-gnu-gcc$' "$room/output"

@@ -1,7 +1,8 @@
 #!/usr/bin/env python3
-"""Writes the completions of nbt and its tools, for bash and zsh, from their help texts.
+"""Writes the completions of nbt, nbt-look and the tools, for bash and zsh, from their help texts.
 
-Usage: tools/completions.py bash|zsh [PROGRAM] >FILE, as `make completions` does for completions/nbt.bash and completions/_nbt.
+Usage: tools/completions.py bash|zsh [PROGRAM [LOOK]] >FILE, as `make completions` does for completions/nbt.bash and completions/_nbt. LOOK is
+the built nbt-look.
 """
 import os
 import re
@@ -9,12 +10,12 @@ import subprocess
 import sys
 
 HERE = os.path.dirname(os.path.abspath(__file__))
-BUILT = os.path.join(HERE, '..', 'crates', 'nbt', 'out', 'nbt')
-TOOLS = 'nbt-look', 'nbt-pcap2cap', 'nbt-cap2pcap', 'nbt-dask', 'nbt-station'
+BUILT = [os.path.join(HERE, '..', 'crates', *each) for each in (('nbt', 'out', 'nbt'), ('nbt_look', 'out', 'nbt_look'))]
+TOOLS = 'nbt-look-tshark', 'nbt-pcap2cap', 'nbt-cap2pcap', 'nbt-dask', 'nbt-station'
 WRITTEN = 'Completion of nbt and its tools. tools/completions.py wrote it from their help texts.'
 
 COMMAND = re.compile(r'^  ([a-z]+) +(.*)', re.MULTILINE)
-OPTION = re.compile(r'^ +(?:-[a-zA-Z], )?(--[a-z-]+)(?: <([A-Z]+)>)?  +(.*)', re.MULTILINE)
+OPTION = re.compile(r'^ +(?:-[a-zA-Z], )?(--[a-z-]+|-[a-z])(?: <([A-Z][A-Z,.]*)>)?  +(.*)', re.MULTILINE)
 TOOL_OPTION = re.compile(r'(?<![-\w`])(--?[a-z][a-z-]*)(?: ([A-Z][A-Z=]*))?')
 PACKET = re.compile(r'([a-z]+)(?: and ([a-z]+))?(?= [A-Z]| \(the same\)|,|$)')
 
@@ -47,6 +48,11 @@ def packets_of(text):
 def commands_of(program):
     lists = re.search(r'^Commands:\n(.*?)\n\n', help_of(program), re.MULTILINE | re.DOTALL)[1]
     return [Command(program, name, about) for name, about in COMMAND.findall(lists) if name != 'help']
+
+
+def options_of(look):
+    """Of nbt-look and each tool the options: name, value, help, of which a tool has none."""
+    return {'nbt-look': OPTION.findall(help_of(look))} | {name: [(*each, '') for each in tool_options(name).items()] for name in TOOLS}
 
 
 def tool_options(name):
@@ -99,12 +105,12 @@ def bash_command(command):
                       "        ;;"))
 
 
-def bash(commands):
+def bash(commands, tools):
     values = sorted({option for command in commands for option, value, _help in command.options if value})
     return BASH.format(written=WRITTEN, names=' '.join(command.name for command in commands),
                        commands='\n'.join(map(bash_command, commands)), values=' | '.join(values),
-                       tools='\n'.join("    %s) words='%s' ;;" % (name, ' '.join(tool_options(name))) for name in TOOLS),
-                       tool_names=' '.join(TOOLS))
+                       tools='\n'.join("    %s) words='%s' ;;" % (name, ' '.join(each[0] for each in options)) for name, options in tools.items()),
+                       tool_names=' '.join(tools))
 
 
 # ---- zsh
@@ -158,23 +164,24 @@ def zsh_command(command):
     return '    %s) _arguments %s ;;' % (command.name, ' '.join(words))
 
 
-def zsh_tool(name):
-    words = [zsh_option(option, value) for option, value in tool_options(name).items()]
+def zsh_tool(name, options):
+    words = [zsh_option(*each) for each in options]
     return "%s) _arguments %s '*:file:_files' ;;" % (name, ' '.join(words))
 
 
-def zsh(commands):
+def zsh(commands, tools):
     lines = [quoted('%s:%s' % (command.name, command.about)) for command in commands]
     lines.append(quoted('help:Print the help of a command, or of a refusal'))
-    return ZSH.format(written=WRITTEN, tool_names=' '.join(TOOLS), commands='\n'.join('        ' + line for line in lines),
-                      options='\n'.join(map(zsh_command, commands)), tools='\n'.join(map(zsh_tool, TOOLS)))
+    return ZSH.format(written=WRITTEN, tool_names=' '.join(tools), commands='\n'.join('        ' + line for line in lines),
+                      options='\n'.join(map(zsh_command, commands)), tools='\n'.join(zsh_tool(*each) for each in tools.items()))
 
 
 def main():
-    if len(sys.argv) not in (2, 3) or sys.argv[1] not in ('bash', 'zsh'):
+    shell, *given = sys.argv[1:] or ['']
+    if shell not in ('bash', 'zsh') or len(given) > 2:
         sys.exit(__doc__.strip())
-    commands = commands_of(os.path.abspath(sys.argv[2] if len(sys.argv) == 3 else BUILT))
-    sys.stdout.write((bash if sys.argv[1] == 'bash' else zsh)(commands))
+    program, look = map(os.path.abspath, given + BUILT[len(given):])
+    sys.stdout.write((bash if shell == 'bash' else zsh)(commands_of(program), options_of(look)))
 
 
 if __name__ == '__main__':

@@ -205,7 +205,7 @@ test('what gzip packed is unpacked up to a bound, and as long as it is wanted', 
     const all = await unpacked(file, async (done) => places.push(done) > 0);
     assert.deepEqual([new Uint8Array(await all.blob.arrayBuffer()), all.fault, places.at(-1)], [data, null, file.size]);
     const some = await unpacked(file, async () => true, 70_000);
-    assert.deepEqual([some.blob.size, some.fault], [70_000, 'more than 70000 bytes once unpacked: what follows is left out; nbt-look reads all of it']);
+    assert.deepEqual([some.blob.size, some.fault], [70_000, 'more than 70000 bytes once unpacked: what follows is left out; nbt-look-tshark reads all of it']);
     assert.equal((await unpacked(file, async () => true, data.length)).fault, null);
     const stopped = await unpacked(file, async () => false);
     assert.equal(stopped.fault, null);

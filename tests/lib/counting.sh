@@ -1,6 +1,8 @@
 # Read by the scripts of tests/: a room for their files, a limit on the time of what they start, the count of their cases,
-# which tests/counts.txt has the least of, and the last line, 'N passed, M failed, K skipped'. $here is the folder tests/.
+# which tests/counts.txt has the least of, and the last line, 'N passed, M failed, K skipped'. $here is the folder tests/, $look the
+# built nbt-look, which LOOK names.
 here=$(cd "$(dirname "${BASH_SOURCE[0]}")/.." && pwd)
+look=$(realpath -m "${LOOK:-$here/../crates/nbt_look/out/nbt_look}")
 script=$(basename "$0")
 room=$(mktemp -d)
 trap 'rm -rf "$room"' EXIT
@@ -101,10 +103,10 @@ counted() {
 # counted_by SCRIPT WORD..: those of a script of tests/.
 counted_by() { counted "$here/$1" "${@:2}"; }
 
-# with_tools PROGRAM: $room/bin has the program and the tools that read a pcap, and the one that leads back. tshark has no user's settings.
+# with_tools PROGRAM: $room/bin has the programs and the tools that read a pcap, and the one that leads back. tshark has no user's settings.
 with_tools() {
-    mkdir "$room/bin" && ln -s "$(realpath "$1")" "$room/bin/nbt"
-    ln -s "$(realpath "$here/../tools")"/nbt-{look,pcap2cap,cap2pcap} "$room/bin"
+    mkdir "$room/bin" && ln -s "$(realpath "$1")" "$room/bin/nbt" && ln -s "$look" "$room/bin/nbt-look"
+    ln -s "$(realpath "$here/../tools")"/nbt-{look-tshark,pcap2cap,cap2pcap} "$room/bin"
     export WIRESHARK_CONFIG_DIR=$room/settings
 }
 

@@ -4,7 +4,7 @@ dist=$room/dist
 fresh=$room/fresh
 
 # packed FOLDER: make dist, into this folder.
-packed() { "$top/tools/dist" "$out" "$out/lib" "$program" "$1" "$here/counts.txt" >"$room/log" 2>&1; }
+packed() { "$top/tools/dist" "$out" "$out/lib" "$program" "$look" "$1" "$here/counts.txt" >"$room/log" 2>&1; }
 
 # The same bytes twice, the second time over those of an older version; PROOF has each source, and no other file.
 made() {
@@ -31,12 +31,12 @@ made() {
     } >"$room/log"
     [ ! -s "$room/log" ]
     count $? "no package runs anything when it is installed: $(head -n 1 "$room/log")"
-    says 'make dist, to a file' "can't be written to" "$top/tools/dist" "$out" "$out/lib" "$program" "$here/counts.txt/dist"
-    says 'make dist of nothing' 'run make build targets first' "$top/tools/dist" "$room/nowhere" "$out/lib" "$program" "$room/dist3"
-    says "make dist, where the gate's lines aren't" 'run make test >' "$top/tools/dist" "$out" "$out/lib" "$program" "$room/dist3" "$room/gate.log"
+    says 'make dist, to a file' "can't be written to" "$top/tools/dist" "$out" "$out/lib" "$program" "$look" "$here/counts.txt/dist"
+    says 'make dist of nothing' 'run make build targets first' "$top/tools/dist" "$room/nowhere" "$out/lib" "$program" "$look" "$room/dist3"
+    says "make dist, where the gate's lines aren't" 'run make test >' "$top/tools/dist" "$out" "$out/lib" "$program" "$look" "$room/dist3" "$room/gate.log"
     mkdir "$room/others" && touch "$room/others/letter.txt"
     says 'make dist, into a folder with other files' "letter.txt, which make dist didn't make" \
-        "$top/tools/dist" "$out" "$out/lib" "$program" "$room/others"
+        "$top/tools/dist" "$out" "$out/lib" "$program" "$look" "$room/others"
     [ -f "$room/others/letter.txt" ]
     count $? 'which are left there'
 }
@@ -93,7 +93,7 @@ debian() {
     installed
     mkdir "$room/bin"
     printf '#!/bin/sh\nexec chroot "%s" nbt "$@"\n' "$fresh" >"$room/bin/nbt" && chmod +x "$room/bin/nbt"
-    ln -s "$fresh"/usr/bin/nbt-{look,pcap2cap,cap2pcap} "$room/bin"
+    ln -s "$fresh"/usr/bin/nbt-{look,look-tshark,pcap2cap,cap2pcap} "$room/bin"
     page README.md
     page docs/CAPTURES.md
     in_c "${CC:-cc}" "$fresh/packages/first" -I"$fresh/usr/include" -L"$fresh/usr/lib/x86_64-linux-gnu" -lnbt

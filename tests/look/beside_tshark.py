@@ -1,5 +1,5 @@
 #!/usr/bin/env python3
-"""Captures through tools/nbt-look, beside tools/nbt-pcap2cap, and files beside the fields of tshark too.
+"""Captures through tools/nbt-look-tshark, beside tools/nbt-pcap2cap, and files beside the fields of tshark too.
 
 Usage: tests/look/beside_tshark.py COUNT [SEED], or .. FILE..
 
@@ -51,7 +51,7 @@ def ten(rng):
 
 def first_difference(path, beside=lambda path, objects: ''):
     """What the tool shows of a capture that the others don't find, or the other way round."""
-    done, other = (run(f'{TOOLS}/{tool}', *words, path) for tool, words in (('nbt-look', ['--json']), ('nbt-pcap2cap', [])))
+    done, other = (run(f'{TOOLS}/{tool}', *words, path) for tool, words in (('nbt-look-tshark', ['--json']), ('nbt-pcap2cap', [])))
     objects = [json.loads(line, object_pairs_hook=members) for line in done.stdout.splitlines()]
     packets = [each for each in objects if 'left_out' not in each and 'cut' not in each]
     given, wanted = collections.Counter(map(head_of, packets)), collections.Counter(PAYLOAD.findall(other.stdout))

@@ -1,7 +1,7 @@
 #!/usr/bin/env python3
-"""Random networks through tools/nbt-look --summary, through the modules of the page, in node, and through a slow model of what is said of names.
+"""Random networks through tools/nbt-look-tshark --summary, through the modules of the page, in node, and through a slow model of what is said of names.
 
-Usage: tests/look/random_networks.py COUNT [SEED [PROGRAM]]: networks of the seeds SEED and on (1), with nbt on PATH for nbt-look, and
+Usage: tests/look/random_networks.py COUNT [SEED [PROGRAM]]: networks of the seeds SEED and on (1), with nbt on PATH for nbt-look-tshark, and
 PROGRAM for the page. In a network stations claim, give up, look for and answer to a few names, and who makes it knows each packet: the rows of
 these names are those of tests/model/said.py, in both programs. Among them are parts of the captures of tests/summary/, with stations exchanged,
 other names, and other bits of headers, of every other network with bytes changed, and frames cut, left out, doubled and moved: both programs say
@@ -198,7 +198,7 @@ def main():
 
 def difference(path, page, tool, known):
     """The tables that the page and the tool don't show alike, and those that aren't what is known; a capture of which something is different is kept."""
-    wrong = [f'{each}: the page {page.get(each)}, nbt-look {tool.get(each)}' for each in sorted((page.keys() | tool.keys()) - {UNREAD})
+    wrong = [f'{each}: the page {page.get(each)}, nbt-look-tshark {tool.get(each)}' for each in sorted((page.keys() | tool.keys()) - {UNREAD})
              if page.get(each) != tool.get(each)]
     for title, (table, count) in TABLES.items():
         wanted, given = sorted(table(known)), sorted(filter(is_known, (tuple(row[at] for at in range(count)) for row in tool.get(title, []))))

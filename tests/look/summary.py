@@ -1,8 +1,8 @@
 #!/usr/bin/env python3
-"""The cases of tests/summary/, captures as text, and the tables that they have (docs/SUMMARY.md has the rules), through tools/nbt-look --summary,
+"""The cases of tests/summary/, captures as text, and the tables that they have (docs/SUMMARY.md has the rules), through tools/nbt-look-tshark --summary,
 or with --page through the modules of the page, in node: each has the tables that stand there, and no others.
 
-Usage: tests/look/summary.py [--page] [PROGRAM], with nbt on PATH for nbt-look, or PROGRAM in its place where packets are made, and where
+Usage: tests/look/summary.py [--page] [PROGRAM], with nbt on PATH for nbt-look-tshark, or PROGRAM in its place where packets are made, and where
 the page asks the library. The last line is 'N passed, M failed'.
 
 A file has cases, each after a line `== WHAT`. A line of packets is `MOMENTS FROM > TO WORDS`, with ` < WORDS` behind it for each packet
@@ -44,7 +44,7 @@ from nbt_pcap.frames import COUNTED
 from parts import tally
 from wire import ACK, RST, SYN, Frames, pcap, written
 
-TOOL = f'{TOOLS}/nbt-look'
+TOOL = f'{TOOLS}/nbt-look-tshark'
 PACKETS = re.compile(r'([\d.,]+) +(\S+) (> \S+) +(.*)')
 STEPS = re.compile(r' +([<>]) ')
 OPTION = re.compile(r'(cut|mac|patch|front|pick|by)=(\S+) +')
@@ -244,7 +244,7 @@ def shown_by_tool(path, places=''):
             except SystemExit as end:
                 os._exit(end.code)
             except BaseException as why:
-                print(f'nbt-look {path}: {why!r}', file=sys.stderr)
+                print(f'nbt-look-tshark {path}: {why!r}', file=sys.stderr)
             os._exit(70)
         status = os.waitpid(child, 0)[1]
         shown.seek(0)

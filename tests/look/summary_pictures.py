@@ -18,7 +18,7 @@ from rich import _export_format
 
 TOP = pathlib.Path(__file__).resolve().parents[2]
 WIDTH = 116
-COMMAND = ('nbt-look', '--summary=names,refusals,queries,sessions', 'examples/samba.pcap')
+COMMAND = ('nbt-look-tshark', '--summary=names,refusals,queries,sessions', 'examples/samba.pcap')
 THEMES = {'light': DEFAULT_TERMINAL_THEME, 'dark': DIMMED_MONOKAI}
 # A picture asks no other machine for its letters.
 FORMAT = re.sub(r'@font-face \{\{.*?\}\}\s*', '', _export_format.CONSOLE_SVG_FORMAT, flags=re.S).replace('Fira Code, ', '')

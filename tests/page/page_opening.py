@@ -66,7 +66,7 @@ class OpeningCases:
         self.pasted()
         self.browser.open(self.program.page(self.page, 'office.pcap'))
         self.browser.wait(self.browser.rows)
-        equal([self.browser.text('title'), len(self.browser.rows())], ['office.pcap', 15], 'nbt-look --html')
+        equal([self.browser.text('title'), len(self.browser.rows())], ['office.pcap', 15], 'nbt-look-tshark --html')
 
     def paste(self, text, until):
         self.browser.open(self.page)
@@ -102,13 +102,13 @@ class OpeningCases:
         self.opened(self.path('unread.pcapng', data))
         equal(self.browser.text('counts'), '1 packet · 1 name · 0 malformed · 0 left out · 8 not read here', 'the counts of such a capture')
         equal(self.browser.text('live'), 'unread.pcapng: 1 packet, 0 malformed, 0 left out, 8 not read here', 'the footer of it')
-        line = "8 frames of what this page doesn't read: GRE, link type radiotap (127). nbt-look reads them."
+        line = "8 frames of what this page doesn't read: GRE, link type radiotap (127). nbt-look-tshark reads them."
         equal(self.browser.texts('#unread'), [line], 'the line above its rows')
         equal(len(self.browser.rows()), 1, 'what is read beside it')
         self.browser.view('names', self.browser.tables)
         equal(self.browser.tables()['not read here'], [['link type', 'why', 'frames', 'frame'], ['Ethernet (1)', 'GRE', '2', '2'],
                                                        ['radiotap (127)', 'link type', '6', '4']], 'the table of it')
-        equal(len(self.program.listed('unread.pcapng')), 9, 'nbt-look reads them')
+        equal(len(self.program.listed('unread.pcapng')), 9, 'nbt-look-tshark reads them')
         self.browser.give('office.pcap', answer='Instead of')
         equal([self.browser.texts('#unread'), 'not read' in self.browser.text('counts')], [[], False], 'a capture without such frames')
 

@@ -9,7 +9,7 @@ class PacketCases:
     """A part of Cases."""
 
     def rows(self):
-        """The rows say what nbt-look does, in the same words."""
+        """The rows say what nbt-look-tshark does, in the same words."""
         for name in ('office.pcap', 'samba.pcap'):
             self.opened(name)
             wanted = self.program.listed(name)

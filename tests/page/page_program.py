@@ -31,7 +31,7 @@ class Program:
     def __init__(self, program, top, folder):
         self.top, self.folder = top, folder
         os.mkdir(f'{folder}/bin')
-        for name, path in (('nbt', program), ('nbt-look', f'{top}/tools/nbt-look'), ('nbt-pcap2cap', f'{top}/tools/nbt-pcap2cap')):
+        for name, path in (('nbt', program), ('nbt-look-tshark', f'{top}/tools/nbt-look-tshark'), ('nbt-pcap2cap', f'{top}/tools/nbt-pcap2cap')):
             os.symlink(path, f'{folder}/bin/{name}')
         os.chmod(written(f'{folder}/bin/tshark', TSHARK.replace('REAL', shutil.which('tshark')).encode()), 0o755)
         self.env = {**os.environ, 'PATH': f"{folder}/bin:{os.environ['PATH']}", 'WIRESHARK_CONFIG_DIR': f'{folder}/settings'}
@@ -49,18 +49,18 @@ class Program:
         return [f'{line}\n' for line in self.lines(f'nbt build {shlex.join(words)}')]
 
     def listed(self, name, options=''):
-        """The rows of nbt-look: frame, time, from, to, and what is said."""
-        lines = itertools.takewhile(lambda line: not COUNTS.match(line), self.lines(f'nbt-look {options} {name}'))
+        """The rows of nbt-look-tshark: frame, time, from, to, and what is said."""
+        lines = itertools.takewhile(lambda line: not COUNTS.match(line), self.lines(f'nbt-look-tshark {options} {name}'))
         return [list(ROW.fullmatch(line).groups()) for line in lines]
 
     def kinds(self, name):
-        """How many packets of a file are of each kind of nbt-look --kind."""
-        packets = map(json.loads, self.lines(f'nbt-look --json --quiet {name}'))
+        """How many packets of a file are of each kind of nbt-look-tshark --kind."""
+        packets = map(json.loads, self.lines(f'nbt-look-tshark --json --quiet {name}'))
         return collections.Counter(kind for packet in packets for kind in kinds_of(packet['port'], packet))
 
     def summary(self, name):
-        """The tables of nbt-look, and what it says below them: by title the names of columns, and rows of cells."""
-        tables = tables_in(self.bytes(f'nbt-look --summary {name}').decode())
+        """The tables of nbt-look-tshark, and what it says below them: by title the names of columns, and rows of cells."""
+        tables = tables_in(self.bytes(f'nbt-look-tshark --summary {name}').decode())
         of_kind = lambda kind, row: [each for each in row.items() if isinstance(each[0], kind)]
         return {title: [{column for column, _ in of_kind(str, rows[0])}, *([cell for _, cell in of_kind(int, row)] for row in rows)]
                 for title, rows in tables.items()}
@@ -85,8 +85,8 @@ class Program:
         return [line.split()[:2] for line in self.lines(f'nbt list {MOST}', self.table(name).decode())]
 
     def page(self, page, name):
-        """The page with a capture in it, by nbt-look, beside which the page lies."""
+        """The page with a capture in it, by nbt-look-tshark, beside which the page lies."""
         shutil.copytree(f'{self.top}/tools', f'{self.folder}/share')
         shutil.copy(page, f'{self.folder}/share/nbt.html')
-        self.bytes(f'share/nbt-look --html given.html {name}')
+        self.bytes(f'share/nbt-look-tshark --html given.html {name}')
         return f'{self.folder}/given.html'

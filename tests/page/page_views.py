@@ -10,7 +10,7 @@ class ViewCases:
     """A part of Cases."""
 
     def names(self):
-        """The tables are those of nbt-look --summary, with its marks and notes."""
+        """The tables are those of nbt-look-tshark --summary, with its marks and notes."""
         self.path('backwards.pcap', page_files.backwards(self.program.bytes('cat office.pcap')))
         for name in ('office.pcap', 'life.pcap', 'backwards.pcap', 'samba.pcap'):
             self.opened(name)

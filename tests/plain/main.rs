@@ -3,10 +3,11 @@
 //! measured there, and prints what `nbt` does. What none of them has ends it, as fragments that
 //! overlap or disagree do.
 //!
-//! usage: plain replay NAME | plain show | plain save | plain merge | plain ROUNDS
+//! usage: plain replay NAME | plain show | plain save | plain merge | plain look | plain ROUNDS
 
 mod capture;
 mod datagrams;
+mod look;
 mod merge;
 mod names;
 mod replay;
@@ -22,6 +23,9 @@ use std::io::{self, Read};
 fn main() -> io::Result<()> {
     let words: Vec<String> = std::env::args().skip(1).collect();
     let (mut input, mut report) = (Vec::new(), Report::default());
+    if words == ["look"] {
+        return look::look(&mut report);
+    }
     io::stdin().lock().take(capture::MOST_INPUT).read_to_end(&mut input)?;
     let done = match words.iter().map(String::as_str).collect::<Vec<_>>()[..] {
         ["replay", name] => replay::replay(&input, name, &mut report),

@@ -6,6 +6,9 @@ use std::fs::File;
 use std::io::{self, Write};
 use std::os::fd::AsFd;
 
+/// How many bytes are printed before the rest comes.
+const MUCH: usize = 65_536;
+
 /// What is to be printed.
 #[derive(Default)]
 pub struct Report(Vec<u8>);
@@ -14,6 +17,33 @@ impl Report {
     /// Prints it, as it is: std's own writer would look for its last line feed.
     pub fn print(&self) -> io::Result<()> {
         File::from(io::stdout().as_fd().try_clone_to_owned()?).write_all(&self.0)
+    }
+
+    /// Prints what there is of it once that is much.
+    pub fn pass_on(&mut self) -> io::Result<()> {
+        if self.0.len() > MUCH {
+            self.print()?;
+            self.0.clear();
+        }
+        Ok(())
+    }
+
+    /// A cell at the left of a column, which gets as wide as it is, and a space.
+    pub fn padded(&mut self, width: &mut usize, write: impl FnOnce(&mut Report)) {
+        let start = self.0.len();
+        write(self);
+        *width = (*width).max(self.0.len() - start);
+        self.0.resize(start + *width + 1, b' ');
+    }
+
+    /// A cell at the right of a column, and a space.
+    pub fn padded_left(&mut self, width: &mut usize, write: impl FnOnce(&mut Report)) {
+        let start = self.0.len();
+        write(self);
+        let length = self.0.len() - start;
+        *width = (*width).max(length);
+        self.0.resize(start + *width + 1, b' ');
+        self.0[start..start + *width].rotate_right(*width - length);
     }
 
     pub fn words(&mut self, words: &str) -> &mut Report {
@@ -27,6 +57,14 @@ impl Report {
             self.number(number / 10);
         }
         self.0.push(b'0' + (number % 10) as u8);
+        self
+    }
+
+    /// A number below a million, with zeros before it.
+    pub fn six_digits(&mut self, number: u64) -> &mut Report {
+        for place in [100_000, 10_000, 1_000, 100, 10, 1] {
+            self.0.push(b'0' + (number / place % 10) as u8);
+        }
         self
     }
 

@@ -103,7 +103,7 @@ class Made:
                 ','.join(map(str, fragments))]
 
     def missing(self, group):
-        """The words of nbt-look for the bytes that no fragment has: one of no bytes splits no gap, but as the end."""
+        """The words of nbt-look-tshark for the bytes that no fragment has: one of no bytes splits no gap, but as the end."""
         pieces = [self.pieces[each] for each in group]
         places = sorted((start, end) for start, end, more in pieces if start < end or not more)
         return ', '.join(map(run_text, runs_missing(places, max((end for _, end, more in pieces if not more), default=None))))

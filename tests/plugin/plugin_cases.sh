@@ -61,12 +61,12 @@ part_states() {
         "$room"/states/{pieces,sessions,office,samba}.pcap
 }
 
-# The tools print the same beside the plugin: they ask tshark for the bytes of these ports, nbt-look by the same words for all its forms.
+# The tools print the same beside the plugin: they ask tshark for the bytes of these ports, nbt-look-tshark by the same words for all its forms.
 part_tools() {
     local tool kind
     with_tools "$program"
     mergecap -a -w "$room/both.pcap" "$room"/states/{office,samba}.pcap && chmod 644 "$room/both.pcap"
-    for tool in 'nbt-look --json' nbt-pcap2cap; do
+    for tool in 'nbt-look-tshark --json' nbt-pcap2cap; do
         for kind in with without; do
             # The tools give tshark a home of their own.
             PATH=$room/$kind:$room/bin:$PATH ended $tool "$room/both.pcap" >"$room/$kind-output" 2>&1

@@ -1,4 +1,4 @@
-"""The command line of nbt-look."""
+"""The command line of nbt-look-tshark."""
 import argparse
 import difflib
 import ipaddress

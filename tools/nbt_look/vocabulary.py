@@ -1,4 +1,4 @@
-"""The words and limits of the summary, which nbt-look and the page have alike: tools/lists.py --made makes page/src/made/vocabulary.js of this file."""
+"""The words and limits of the summary, which nbt-look-tshark and the page have alike: tools/lists.py --made makes page/src/made/vocabulary.js of it."""
 import enum
 
 from nbt_pcap.header import FRAGMENTS, NBSTAT

@@ -27,9 +27,9 @@ def page_of(language):
     return f'# nbt for {language}\n\n{SUMMARY}.\n\n{found[1].strip()}\n' if found else fail(f'docs/CALLING.md says nothing of {language}')
 
 
-def glibc_of(library):
-    """The least glibc that has all that a library needs."""
-    found = re.findall(rb'GLIBC_(\d+)\.(\d+)', bytes_of(library))
+def glibc_of(*files):
+    """The least glibc that has all that libraries or programs need."""
+    found = re.findall(rb'GLIBC_(\d+)\.(\d+)', b''.join(map(bytes_of, files)))
     return '.'.join(map(str, max((int(a), int(b)) for a, b in found)))
 
 

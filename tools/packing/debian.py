@@ -61,21 +61,22 @@ def maintainer():
                              for name, form in (('DEBFULLNAME', '%an'), ('DEBEMAIL', '%ae')))
 
 
-def program_deb(room, folder, program):
-    """nbt: the program, its tools and pages, as make install puts them."""
-    said = run(program, '--version').strip()
-    if said != f'nbt {VERSION}':
-        fail(f"CHANGELOG.md begins with version '{VERSION}', and the program says '{said}'")
-    deb = Deb(room, 'nbt', 'amd64', 'net', f'libc6 (>= {glibc_of(program)}), python3', [
+def program_deb(room, folder, program, look):
+    """nbt: the programs, their tools and pages, as make install puts them."""
+    for name, path in ('nbt', program), ('nbt-look', look):
+        said = run(path, '--version').strip()
+        if said != f'{name} {VERSION}':
+            fail(f"CHANGELOG.md begins with version '{VERSION}', and the program says '{said}'")
+    deb = Deb(room, 'nbt', 'amd64', 'net', f'libc6 (>= {glibc_of(program, look)}), python3', [
         'NetBIOS packets on the command line', 'Shows and builds the packets of NetBIOS over TCP and UDP (RFC 1001, RFC 1002),',
         'puts datagrams together from their fragments, and joins what several taps',
         'heard. It opens no sockets. With it come nbt-look, which says in words what the',
-        'packets of a pcap file or a network are, tools that make its captures from pcap',
-        'files, and saved tables of captures of any size, and nbt-station, which opens a',
-        'socket, and wants the package python3-nbt.'],
+        'packets of a pcap or pcapng file are, tools that read what tshark does, that make',
+        'captures from pcap files, and saved tables of captures of any size, and',
+        'nbt-station, which opens a socket, and wants the package python3-nbt.'],
         ['Recommends: tshark', 'Suggests: python3-rich, python3-distributed, python3-nbt'], '/usr/share/doc/nbt/CHANGELOG.md')
-    run('make', '-s', '-C', TOP, 'install', f'PROGRAM={program}', f'DESTDIR={deb.root}', 'PREFIX=/usr')
-    run('strip', '--strip-unneeded', deb.path('usr/bin/nbt'))
+    run('make', '-s', '-C', TOP, 'install', f'PROGRAM={program}', f'LOOK={look}', f'DESTDIR={deb.root}', 'PREFIX=/usr')
+    run('strip', '--strip-unneeded', *(deb.path(f'usr/bin/{name}') for name in ('nbt', 'nbt-look')))
     for name in os.listdir(deb.path('usr/share/man/man1')):
         page = f'usr/share/man/man1/{name}'
         deb.put(f'{page}.gz', gzip.compress(bytes_of(deb.path(page)), 9, mtime=0))

@@ -15,7 +15,7 @@ import { linkName, wrappingOf, type Unread } from './unread.js';
 
 /** Of how many streams the number is known. */
 const MOST_STREAMS = 262_144;
-/** Why a frame has no packet that nbt-look would find either. */
+/** Why a frame has no packet that nbt-look-tshark would find either. */
 const NOTHING = ['no IP', 'cut'];
 
 /** The hardware addresses from which and, of Ethernet, to which a frame goes. */

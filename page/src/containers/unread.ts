@@ -1,4 +1,4 @@
-/** Frames whose packets aren't read here: those of other link types, and those whose packet of IP is wrapped in something else. nbt-look reads them. */
+/** Frames whose packets aren't read here: those of other link types, and those whose packet of IP is wrapped in something else. nbt-look-tshark reads them. */
 import type { Internet } from './internet.js';
 import { UDP, portsIn } from './transport.js';
 

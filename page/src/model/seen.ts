@@ -1,4 +1,4 @@
-/** What is made of the packets of a file, one after another: what nbt-look sums up too, and what the page alone tells. */
+/** What is made of the packets of a file, one after another: what nbt-look-tshark sums up too, and what the page alone tells. */
 import { Seen as Summed } from '../made/seen.js';
 import { Room } from '../made/rooms.js';
 import { MOST_KEYS, PIECES, PORT } from '../made/vocabulary.js';

@@ -17,7 +17,7 @@ export function momentOf(time: bigint, first: bigint) {
     return time > first ? Number((time - first) / MILLISECOND) : 0;
 }
 
-/** A span in seconds, as nbt-look writes it; before the first frame it is negative. */
+/** A span in seconds, as nbt-look-tshark writes it; before the first frame it is negative. */
 export function since(time: bigint | null, first: bigint | null) {
     if (time === null) return '-';
     const span = time - (first ?? 0n);

@@ -113,7 +113,7 @@ export class PacketsView {
         const unread = this.app.tap?.counts.unread;
         const line = byId('unread', HTMLElement);
         line.hidden = !unread?.frames;
-        if (unread?.frames) say(line, `${counted(unread.frames, 'frame')} of what this page doesn't read: ${unread.whys.join(', ')}. nbt-look reads them.`);
+        if (unread?.frames) say(line, `${counted(unread.frames, 'frame')} of what this page doesn't read: ${unread.whys.join(', ')}. nbt-look-tshark reads them.`);
     }
 
     /** Says what the box takes, where no row fits.

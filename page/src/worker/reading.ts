@@ -13,7 +13,7 @@ import { isPacked, unpacked } from './unpack.js';
 /** How long the worker reads before it looks whether something is wanted of it, in milliseconds. */
 const WHILE = 24;
 const MOST_TABLE = 64 << 20;
-const FULL = 'more than the page keeps: what follows is left out; nbt-look reads all of it';
+const FULL = 'more than the page keeps: what follows is left out; nbt-look-tshark reads all of it';
 
 /** One reading of a file into a tap. */
 export class Reading {

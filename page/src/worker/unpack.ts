@@ -36,7 +36,7 @@ export async function unpacked(file: Blob, goesOn: (done: number) => Promise<boo
         for (let piece = await reader.read(); !piece.done; piece = await reader.read()) {
             const room = most - parts.size;
             parts.push(piece.value.subarray(0, room));
-            if (piece.value.length > room) return await end(`more than ${most} bytes once unpacked: what follows is left out; nbt-look reads all of it`);
+            if (piece.value.length > room) return await end(`more than ${most} bytes once unpacked: what follows is left out; nbt-look-tshark reads all of it`);
             if (!await goesOn(done)) return await end(null);
         }
         return { blob: parts.blob(), fault: null };

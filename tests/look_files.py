@@ -96,7 +96,8 @@ def beside_tshark(program, paths):
     apart = collections.Counter()
     for path in paths:
         rows, listed = tshark_rows(path), Listed(program, path)
-        plain = [each for each in rows if is_plain(each)]
+        # Raw IP of a version that its link type doesn't name: tshark reads none of it.
+        plain = [each for each in rows if is_plain(each) and each['frame.protocols'] != 'raw:data']
         state = {'first': None, 'label': None, 'widths': [5, 9, 15, 15]}
         wanted = {int(each['frame.number']): line for each in rows for line in line_of(each, state)}
         others = {int(each['frame.number']) for each in rows} - {int(each['frame.number']) for each in plain}

@@ -11,8 +11,8 @@ with, and with a request refused that no longer comes it has to do so too. What 
   request.
 - `examples`: answer as ever but for one example, whose answer is that memory ran out; or end with status 3 and `nb_examples: memory`.
   An answer may stay as ever, but not at each request.
-- `look`: end with status 3, `nbt-look: .. memory ran out` and a front of the list that ends where a line does; of a bad command line as ever,
-  but not at each request.
+- `look`: end with status 3, `nbt-look: .. memory ran out`, or that the command line can't be read, and a front of the list that ends where a
+  line does; of a bad command line as ever, but not at each request.
 
 A case is a request, that there are some, that some refusal is met, and that without one all is as ever. The last line is
 'N passed, M failed'.
@@ -46,8 +46,11 @@ def examples(ample, ran, _):
     return 'refused' if ran.status == 1 and [len(it) for it in (counts, calls, answers)] == [2, 1, 1] else None
 
 
+LOOK_REFUSED = re.compile(rb"nbt-look: (the command line can't be read|(standard input: )?memory ran out( at byte \d+, after frame \d+)?)\n")
+
+
 def look(ample, ran, _):
-    if ran.status == 3 and re.fullmatch(rb'nbt-look: (standard input: )?memory ran out( at byte \d+, after frame \d+)?\n', ran.errors):
+    if ran.status == 3 and LOOK_REFUSED.fullmatch(ran.errors):
         listed = re.split(rb'^\d+ frames?, ', ran.output, maxsplit=1, flags=re.MULTILINE)[0]
         return 'refused' if ample.output.startswith(listed) and (not listed or listed.endswith(b'\n')) else None
     return 'as ever' if ran == ample and ran.status == 2 else None

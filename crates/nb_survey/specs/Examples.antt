@@ -13,7 +13,6 @@ fred = codes "EGFCEFEECACACACACACACACACACACACA" ∷ []
 abbrev pub seven : IpAddr
 seven = V4 (record { octets = 10 ∷ 0 ∷ 0 ∷ 7 ∷ [] })
 
-
 -- 10.0.0.8
 abbrev pub eight : IpAddr
 eight = V4 (record { octets = 10 ∷ 0 ∷ 0 ∷ 8 ∷ [] })

@@ -63,7 +63,6 @@ of_record heard name word = map (of_entry heard name word) heard.entries.items
 abbrev pub of_sender : Heard → List (List ℕ) → Word → Said
 of_sender heard name word = said_at heard name heard.facts.frame.source word None
 
-
 -- what it says of where it goes
 abbrev pub of_target : Heard → List (List ℕ) → Word → Said
 of_target heard name word = said_at heard name heard.facts.frame.target word None

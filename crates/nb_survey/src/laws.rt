@@ -1,10 +1,14 @@
 //! Laws of the definitions that the contracts cite. Each is proved; a call does nothing.
-ghost use Rattle.std.specs.Prelude.{◌≡◌, ℕ, [], ◌∷◌, List, Some, None, true, false, codes, replicate};
+ghost use Rattle.std.specs.Prelude.{◌≡◌, ℕ, [], ◌∷◌, ◌++◌, List, Some, None, true, false, codes, replicate};
 ghost use Rattle.nb_names.specs.FirstLevel.{letters};
 ghost use Rattle.nb_survey.specs.Examples.{fred, IsFrom, seven, eight};
+ghost use Rattle.nb_survey.specs.Places.{place_eq};
+ghost use Rattle.nb_survey.specs.Rows.{row_at};
 ghost use Rattle.nb_survey.specs.Sayings.{is_wildcard, listed_word, said_at, sayings};
 ghost use Rattle.nb_survey.specs.Words.{asking_of, is_own, word_of};
 ghost use Rattle.nb_survey.specs.declared.heard.Heard.{Heard};
+ghost use Rattle.nb_survey.specs.declared.heard.Place.{Place};
+ghost use Rattle.nb_survey.specs.declared.heard.Said.{Said};
 ghost use Rattle.nb_survey.specs.declared.word.Asking.{Asking};
 ghost use Rattle.nb_survey.specs.declared.word.Word.{Word};
 ghost use Rattle.nb_survey.specs.declared.word.Word.TheVariants.{Claims, Refreshes, Takes, GivesUp, Granted, AsksHolder, ToldOfConflict, Refused, ToWait, Released, NotReleased, Answers, SaidToHaveIt, Lists, ListsInConflict, ListsInactive};
@@ -59,4 +63,11 @@ pub fn packets()
     ensures grant { (heard : Heard) → IsFrom heard 44416
         (record { flags = 57344; address = 10 ∷ 0 ∷ 0 ∷ 7 ∷ [] } ∷ []) →
         sayings heard ≡ said_at heard fred seven Granted (Some true) ∷ [] }
+{}
+
+/// What is said of another name, or at another address, changes no row, wherever it is said.
+pub fn others_change_nothing()
+    ensures { (place : Place) (before later : List Said) (other : Said) →
+        place_eq other.place place ≡ false →
+        row_at place (before ++ other ∷ later) ≡ row_at place (before ++ later) }
 {}

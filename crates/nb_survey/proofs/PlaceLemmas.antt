@@ -1,11 +1,10 @@
 -- Names at addresses that stand at one place of an order are one.
-use Rattle.std.proofs.Common.{ℕ, ◌≡◌, refl, ap, List, true}
-use Rattle.std.specs.Ordering.{nat_cmp, ordering_then, eq_by_cmp}
+use Rattle.std.proofs.Common.{ℕ, ◌≡◌, refl, List, true}
+use Rattle.std.specs.Ordering.{ordering_then}
 use Rattle.std.specs.Cmp.{Equal-is}
 use Rattle.std.specs.FinMap.{IsAntisymmetric, nat_cmp-IsAntisymmetric, slice_cmp-IsAntisymmetric}
 use Rattle.std.specs.declared.cmp.Ordering.{Ordering}
 use Rattle.std.specs.declared.cmp.Ordering.TheVariants.{Less, Equal, Greater}
-use Rattle.std.specs.declared.net.ip_addr.IpAddr.{IpAddr}
 use Rattle.std.specs.declared.net.ip_addr.IpAddr.TheVariants.{V4, V6}
 use Rattle.nb_names.specs.DomainName.{domain_cmp}
 use Rattle.nb_names.specs.NameFacts.{spelling-injective}

@@ -1,5 +1,5 @@
 -- The table *names*: a row for each name and address of which something is said (our choice; docs/SUMMARY.md).
-use Rattle.std.specs.Prelude.{ℕ, ◌≡◌, ◌+◌, ◌-◌, ◌^◌, min, not, Bool, true, false, List, [], ◌∷◌, ◌++◌, filter, filter_map, count_by, Option, Some, None, unwrap_or, if◌then◌else◌}
+use Rattle.std.specs.Prelude.{ℕ, ◌≡◌, ◌-◌, ◌^◌, min, not, Bool, true, false, List, [], ◌∷◌, filter, filter_map, count_by, Option, Some, None, unwrap_or, if◌then◌else◌}
 use Rattle.std.specs.List.{last_or}
 use Rattle.nb_survey.specs.declared.heard.Place.{Place}
 use Rattle.nb_survey.specs.declared.heard.Said.{Said}

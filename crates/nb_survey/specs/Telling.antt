@@ -1,6 +1,6 @@
 -- All that the packets of a capture say, in order (our choice; docs/SUMMARY.md): a response to a claim or a release says it of the
 -- addresses of the request that it answers, where there is one.
-use Rattle.std.specs.Prelude.{ℕ, ◌==◌, ◌||◌, Bool, true, false, List, [], ◌∷◌, ◌++◌, map, fold, Option, Some, None, if◌then◌else◌}
+use Rattle.std.specs.Prelude.{ℕ, ◌==◌, ◌||◌, Bool, false, List, [], ◌∷◌, ◌++◌, map, fold, Option, Some, None, if◌then◌else◌}
 use Rattle.std.specs.declared.net.ip_addr.IpAddr.{IpAddr}
 use Rattle.nb_service.specs.Header.{opcode_of}
 use Rattle.nb_service.specs.declared.views.AddressEntry.{AddressEntry}

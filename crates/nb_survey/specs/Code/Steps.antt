@@ -1,5 +1,5 @@
 -- A row, after one more word.
-use Rattle.std.specs.Prelude.{ℕ, ◌+◌, ◌-◌, ◌^◌, min, Bool, true, false, ◌∷◌, [], Option, Some, None, if◌then◌else◌}
+use Rattle.std.specs.Prelude.{ℕ, ◌+◌, ◌-◌, ◌^◌, min, Bool, ◌∷◌, [], Option, Some, None, if◌then◌else◌}
 use Rattle.nb_survey.specs.declared.heard.Said.{Said}
 use Rattle.nb_survey.specs.declared.row.Row.{Row}
 use Rattle.nb_survey.specs.Rows.{claimed_of, granted_of, is_claim, others_of, own_of, refuses, row_from}

@@ -1,4 +1,4 @@
-use Rattle.std.proofs.Common.{rules, arith, not}
+use Rattle.std.proofs.Common.{rules, not}
 use Rattle.std.proofs.lemmas.Fn.{filter_same}
 use Rattle.nb_survey.specs.Places.{same_address}
 use Rattle.nb_survey.proofs.requests.leave_out.Goals as goal

@@ -1,0 +1,3 @@
+pub mod PlaceLemmas
+pub mod RequestLemmas
+pub mod RowLemmas

@@ -1,0 +1,10 @@
+pub mod Words
+pub mod Places
+pub mod PlaceFacts
+pub mod Sayings
+pub mod Requests
+pub mod Telling
+pub mod Rows
+pub mod Sums
+pub mod Code
+pub mod Examples

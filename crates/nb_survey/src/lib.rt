@@ -1,0 +1,18 @@
+//! What the packets of a capture say of names: the tables of a summary.
+#![tactic(auto)]
+
+mod heard;
+pub mod laws;
+mod place;
+mod requests;
+mod row;
+mod rows;
+mod saying;
+mod survey;
+mod word;
+
+pub use heard::{Facts, Frame, Heard, Listed, Place, Said};
+pub use row::{Half, Row};
+pub use saying::say;
+pub use survey::Survey;
+pub use word::{Asking, Word, word_of};

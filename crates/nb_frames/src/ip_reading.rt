@@ -24,7 +24,7 @@ pub(crate) fn read_ip<'a>(packet: &'a [u8]) -> Result<IpPacket<'a>, Reason>
     }
 }
 
-/// What is read of a packet of IPv4 of which the first twenty bytes are there (RFC 791 section 3.1).
+/// What is read of a packet of IPv4 whose first twenty bytes are there (RFC 791 section 3.1).
 fn read_ipv4<'a>(packet: &'a [u8]) -> Result<IpPacket<'a>, Reason>
     requires { 20 ≤ length packet.now }
     ensures { result ≡ ipv4 packet.now }

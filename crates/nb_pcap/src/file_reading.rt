@@ -137,8 +137,8 @@ impl FileRoom {
         self.frames
     }
 
-    /// The frame that [`next_frame`] gave last, lent again; `None` where its last call gave none, or
-    /// where there was no call.
+    /// The frame that [`next_frame`] gave last, lent again; `None` where its last call gave none,
+    /// or where there was no call.
     pub fn last_frame(&self) -> Option<Frame<'_>>
         ensures { frame_lent result ≡ last_of self.now }
     {

@@ -25,8 +25,9 @@ pub fn one_file()
         → (frames ≡ others) × (rest ≡ left) × (last ≡ other) }
 {}
 
-/// The frames that calls of `next_frame` give, one after another, are those that the bytes of the file spell, in order and numbered from 1, however the reads cut it; then
-/// the file ends, or a fault is answered with its byte and the number of frames before it.
+/// The frames that calls of `next_frame` give, one after another, are those that the bytes of the
+/// file spell, in order and numbered from 1, however the reads cut it; then the file ends, or a
+/// fault is answered with its byte and the number of frames before it.
 pub fn frames_in_order()
     ensures none { (known : Option (List ℕ)) (counts : Counts) →
         HasGiven known known counts counts [] nothing_read }

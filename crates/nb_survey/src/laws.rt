@@ -46,9 +46,9 @@ pub fn wildcards()
     ensures others { is_wildcard fred ≡ false }
 {}
 
-/// Four packets about `FRED`, from 10.0.0.7 to 10.0.0.8: an answer with both addresses, the second a
-/// group's; a claim without a record, which is about its sender; a refusal, which is about where it
-/// goes; and a grant, which is about the address in its record.
+/// Four packets about `FRED`, from 10.0.0.7 to 10.0.0.8: an answer with both addresses, the second
+/// a group's; a claim without a record, which is about its sender; a refusal, which is about where
+/// it goes; and a grant, which is about the address in its record.
 pub fn packets()
     ensures answer { (heard : Heard) → IsFrom heard 34176
         (record { flags = 24576; address = 10 ∷ 0 ∷ 0 ∷ 7 ∷ [] }

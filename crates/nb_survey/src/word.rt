@@ -11,15 +11,15 @@ pub enum Word {
     Claims,
     /// Name refresh request 4.2.4.
     Refreshes,
-    /// Name overwrite request and demand 4.2.3.
+    /// Name overwrite request and demand (4.2.3).
     Takes,
-    /// Name release request and demand 4.2.9.
+    /// Name release request and demand (4.2.9).
     GivesUp,
     /// Positive name registration response 4.2.5.
     Granted,
     /// End-node challenge name registration response 4.2.7.
     AsksHolder,
-    /// Name conflict demand 4.2.8, or a negative response with CFT_ERR, which has the same bytes.
+    /// Name conflict demand (4.2.8), or a negative response with CFT_ERR, which has the same bytes.
     ToldOfConflict,
     /// Negative name registration response 4.2.6, with its RCODE.
     Refused(u8),

@@ -138,7 +138,7 @@ fn done(outcome: Result<(), Fault>) -> Result<Status, Fault>
     Ok(Status::Done)
 }
 
-/// The outcome of `save`; a person is told how many keys the ticks of the capture dropped.
+/// The outcome of `save`; a person gets a line on how many keys the ticks of the capture dropped.
 fn saved<E: Write>(outcome: Result<u64, Fault>, errors: &mut Errors<'_, E>) -> Result<Status, Fault>
     ensures outcome { result ≡ with_status outcome }
     ensures quiet { errors.old.audience ≡ Audience.Programs → errors.new ≡ errors.old }

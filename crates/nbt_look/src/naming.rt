@@ -12,7 +12,7 @@ use std::alloc::Global;
 use std::fmt::Display;
 use std::marker::Model;
 
-/// A sink that hears whether a name is told that is wanted.
+/// A sink that notes whether a packet has a name that is wanted.
 #[derive(Drop)]
 struct NameSink<'a> {
     wanted: &'a [Bytes],
@@ -155,7 +155,7 @@ fn is_named(alloc: Global, wanted: &[Bytes], port: u16, payload: &[u8]) -> Resul
     has_name(alloc, wanted, port, payload)
 }
 
-/// Whether a name is wanted that is told under this tag.
+/// Whether a name of a field with this tag is wanted.
 fn is_wanted_name(wanted: &[Bytes], tag: &str, name: &[u8]) -> bool
     ensures { result ≡ is_wanted_name wanted.now tag.now name.now }
 {
@@ -169,7 +169,7 @@ fn is_among(wanted: &[Bytes], name: &[u8]) -> bool
     wanted.iter().any(|one| means(one.as_slice(), name))
 }
 
-/// Whether names are told under this tag.
+/// Whether fields with this tag have names.
 fn is_of_names(tag: &str) -> bool
     ensures { result ≡ is_of_names tag.now }
 {

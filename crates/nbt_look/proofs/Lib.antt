@@ -2,3 +2,9 @@ mod FrontLemmas
 mod PrintingLemmas
 mod TimesLemmas
 mod NamingLemmas
+mod ObjectLemmas
+mod MergingLemmas
+mod SourcesLemmas
+mod SeveralLemmas
+mod RunningLemmas
+mod ColourLemmas

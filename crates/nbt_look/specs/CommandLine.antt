@@ -25,6 +25,10 @@ host_rule = repeated_rule (codes "host")
 abbrev pub port_rule : Rule
 port_rule = record (repeated_rule (codes "port")) { parser = Some (Unsigned 0 65_535) }
 
+-- `--kind KIND,..`
+abbrev pub kind_rule : Rule
+kind_rule = repeated_rule (codes "kind")
+
 -- `-c N`, from 1 to the greatest number of 64 bits
 abbrev pub count_rule : Rule
 count_rule = record (new_rule (codes "count")) {
@@ -34,9 +38,16 @@ count_rule = record (new_rule (codes "count")) {
   parser = Some (Unsigned 1 (2 ^ 64 - 1));
 }
 
--- the word FILE, which is required
-abbrev pub file_rule : Rule
-file_rule = record (new_rule (codes "FILE")) { required = true; action = Some Set }
+-- `-r FILE`, any number of times
+abbrev pub read_rule : Rule
+read_rule = record (new_rule (codes "read")) { short = Some 114; action = Some Append; value_names = 1 }
+
+-- the words FILE
+abbrev pub files_rule : Rule
+files_rule = record (new_rule (codes "FILE")) {
+  action = Some Append;
+  range = Some (record { start_inclusive = 0; end_inclusive = 18446744073709551615 });
+}
 
 -- the program has a version, and no argument
 abbrev pub top_app : App
@@ -46,14 +57,24 @@ top_app = on_top (λ s. record s { has_version = true }) (new_app (codes "nbt-lo
 abbrev pub time_rule : Rule
 time_rule = record (new_rule (codes "time")) { long = Some (codes "time"); action = Some Set; value_names = 1 }
 
+-- `--color WHEN`
+abbrev pub colour_rule : Rule
+colour_rule = record (new_rule (codes "color")) { long = Some (codes "color"); action = Some Set; value_names = 1 }
+
 -- the same with the options of what is wanted
 abbrev pub with_filters : App
-with_filters = with_rule (with_rule (with_rule (with_rule (with_rule top_app quiet_rule) name_rule) host_rule) port_rule) count_rule
+with_filters =
+    with_rule (with_rule (with_rule (with_rule (with_rule (with_rule top_app quiet_rule) name_rule) host_rule) port_rule) kind_rule) count_rule
 
--- the same with the option of times
+-- `--json`, which is given or not
+abbrev pub json_rule : Rule
+json_rule = record (new_rule (codes "json")) { long = Some (codes "json"); action = Some SetTrue }
+
+-- the same with the options of how packets are shown, and of files
 abbrev pub with_options : App
-with_options = with_rule with_filters time_rule
+with_options = with_rule (with_rule (with_rule (with_rule with_filters time_rule) colour_rule) json_rule) read_rule
 
--- the whole command line: `[--quiet] [--name TEXT].. [--host ADDRESS].. [--port PORT].. [-c N] [--time WHEN] FILE`
+-- the whole command line: `[--quiet] [--name TEXT].. [--host ADDRESS].. [--port PORT].. [--kind KIND,..].. [-c N] [--time WHEN] [--color WHEN] [--json]
+-- [-r FILE].. [FILE]..`
 abbrev pub look_app : App
-look_app = with_rule with_options file_rule
+look_app = with_rule with_options files_rule

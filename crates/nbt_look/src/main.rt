@@ -4,43 +4,47 @@
 mod asked;
 mod asking;
 mod cells;
+mod choosing;
+mod colours;
 mod command_line;
 mod counting;
 mod ends;
+mod frame_members;
+mod heading;
+mod hearing;
+mod kinds;
+mod last;
+mod laws;
 mod lister;
 mod listing;
+mod looking;
+mod merging;
+mod messages;
 mod naming;
+mod objects;
 mod output;
 mod printing;
 mod program;
 mod reporting;
+mod running;
 mod signature;
+mod sources;
 mod standing;
 mod times;
 mod totals;
 mod wanted;
 mod widths;
 
-use crate::asked::Asked;
 use crate::asking::{AskFault, asked_of};
 use crate::command_line::command;
-use crate::output::{FlushingInput, SharedOutput};
-use crate::program::run;
-use crate::signature::{SignatureInput, UNREAD};
+use crate::looking::look_at_all;
+use crate::messages::{BAD_USAGE, FAILED, fail, misuse, misuse_kind};
 use clap::error::ErrorKind;
 use clap::{ArgMatches, Error};
-use nb_streams::Counted;
-use std::alloc::Global;
-use std::cell::{Cell, RefCell};
-use std::fs::{File, metadata};
-use std::io::{BufWriter, Read, Write};
+use std::alloc::{AllocError, Global};
+use std::env;
+use std::io::{IsTerminal, Write};
 use std::process::ExitCode;
-use std::{env, io};
-
-/// The statuses of a bad command line, and of what failed.
-const BAD_USAGE: u8 = 2;
-
-const FAILED: u8 = 3;
 
 fn main(rt: HostRuntime) -> ExitCode {
     ExitCode::from(start(&rt))
@@ -60,32 +64,6 @@ fn start(rt: &HostRuntime) -> u8 {
     }
 }
 
-/// Shows the file that is asked for, as it is asked for, and answers the exit status.
-fn look_as(rt: &HostRuntime, matches: &ArgMatches<'_>) -> u8 {
-    let Some(title) = matches.get_str("FILE") else {
-        return BAD_USAGE;
-    };
-    match asked_of(rt.alloc(), matches) {
-        Ok(asked) => look_at(rt, title, asked),
-        Err(AskFault::Host(word)) => misuse(
-            rt,
-            word,
-            "no address: give one such as 10.0.0.5, or a network as 10.0.0.0/8",
-        ),
-        Err(AskFault::Time(word)) => {
-            misuse(rt, word, "no way to show times: give start, or utc")
-        }
-        Err(AskFault::NoMemory) => fail(rt, "memory ran out"),
-    }
-}
-
-/// Says what is wrong with a word of the command line.
-fn misuse(rt: &HostRuntime, word: &str, why: &str) -> u8 {
-    let mut errors = rt.stderr();
-    let _ = writeln!(errors, "nbt-look: {word}: {why}");
-    BAD_USAGE
-}
-
 /// The words that the program was called with, its own name first.
 fn words_of(rt: &HostRuntime) -> Option<Vec<String>> {
     let mut words = Vec::new(rt.alloc());
@@ -95,11 +73,52 @@ fn words_of(rt: &HostRuntime) -> Option<Vec<String>> {
     Some(words)
 }
 
-/// Says why nothing was done.
-fn fail(rt: &HostRuntime, why: &str) -> u8 {
-    let mut errors = rt.stderr();
-    let _ = writeln!(errors, "nbt-look: {why}");
-    FAILED
+/// Shows the file that is asked for, as it is asked for, and answers the exit status.
+fn look_as(rt: &HostRuntime, matches: &ArgMatches<'_>) -> u8 {
+    let Ok(titles) = titles_of(rt.alloc(), matches) else {
+        return fail(rt, "memory ran out");
+    };
+    match asked_of(rt.alloc(), matches, is_plain(rt)) {
+        Ok(asked) => look_at_all(rt, titles.as_slice(), asked),
+        Err(AskFault::Host(word)) => misuse(
+            rt,
+            word,
+            "no address: give one such as 10.0.0.5, or a network as 10.0.0.0/8",
+        ),
+        Err(AskFault::Kind(word)) => misuse_kind(rt, word),
+        Err(AskFault::Unread(word)) => misuse(
+            rt,
+            word,
+            "a kind of packets of port 139, which aren't read yet",
+        ),
+        Err(AskFault::Time(word)) => {
+            misuse(rt, word, "no way to show times: give start, or utc")
+        }
+        Err(AskFault::Colour(word)) => misuse(
+            rt,
+            word,
+            "no way to choose colours: give auto, always, or never",
+        ),
+        Err(AskFault::NoMemory) => fail(rt, "memory ran out"),
+    }
+}
+
+/// Whether standard output is no terminal, or one that is to have no colours: `NO_COLOR` isn't
+/// empty, or `TERM` is `dumb`.
+fn is_plain(rt: &HostRuntime) -> bool {
+    if !rt.stdout().is_terminal() {
+        return true;
+    }
+    let asked = env::var(rt, "NO_COLOR").is_ok_and(|word| !word.is_empty());
+    asked || env::var(rt, "TERM").is_ok_and(|word| word.as_str() == "dumb")
+}
+
+/// The names of files, those of `-r` first.
+fn titles_of<'a>(alloc: Global, matches: &ArgMatches<'a>) -> Result<Vec<&'a str>, AllocError> {
+    let mut titles = Vec::new(alloc);
+    titles.extend_from_slice(matches.get_strs("read").unwrap_or(&[]))?;
+    titles.extend_from_slice(matches.get_strs("FILE").unwrap_or(&[]))?;
+    Ok(titles)
 }
 
 /// Says what clap has in the place of matches: help, the version, or what is wrong.
@@ -119,98 +138,4 @@ fn refuse(rt: &HostRuntime, error: &Error) -> u8 {
             BAD_USAGE
         }
     }
-}
-
-/// Shows the file of this name, or standard input by `-`, and answers the exit status.
-fn look_at(rt: &HostRuntime, title: &str, asked: Asked) -> u8 {
-    if title == "-" {
-        return look(rt, "standard input", asked, rt.stdin());
-    }
-    if let Ok(found) = metadata(rt, title) {
-        if found.is_dir() {
-            return fail_at(rt, title, "it is a directory: give a file of it");
-        }
-    }
-    match File::open(rt, title) {
-        Ok(file) => look(rt, title, asked, file),
-        Err(error) => unopened(rt, title, &error),
-    }
-}
-
-/// Says that a file can't be opened.
-fn unopened(rt: &HostRuntime, title: &str, error: &io::Error) -> u8 {
-    match error.kind() {
-        io::ErrorKind::NotFound => fail_at(rt, title, "there is no file of this name"),
-        io::ErrorKind::PermissionDenied => fail_at(
-            rt,
-            title,
-            "you may not read it: ask its owner, or use sudo",
-        ),
-        _ => fail_at(rt, title, "it can't be opened"),
-    }
-}
-
-/// Says why a file isn't read.
-fn fail_at(rt: &HostRuntime, title: &str, why: &str) -> u8 {
-    let mut errors = rt.stderr();
-    let _ = writeln!(errors, "nbt-look: {title}: {why}");
-    FAILED
-}
-
-/// Shows an input, before each read of which what was printed is written out, and answers the exit
-/// status.
-fn look<R: Read + Drop>(rt: &HostRuntime, title: &str, asked: Asked, input: R) -> u8 {
-    let Ok(stdout) = BufWriter::new(rt.alloc(), rt.stdout()) else {
-        return fail(rt, "memory ran out");
-    };
-    let Ok(mut errors) = BufWriter::new(rt.alloc(), rt.stderr()) else {
-        return fail(rt, "memory ran out");
-    };
-    let printed = RefCell::new(stdout);
-    let shown = run_flushing(rt.alloc(), title, asked, input, &printed, &mut errors);
-    let mut output = printed.into_inner();
-    let flushed = output.flush();
-    // What a failed flush left is let go: it isn't written once more.
-    let (_stdout, _left) = output.into_parts();
-    let answer = match (shown, flushed) {
-        (Some(code), Ok(())) => {
-            let _ = errors.flush();
-            code
-        }
-        _ => fail(rt, "standard output can't be written"),
-    };
-    let (_stderr, _unwritten) = errors.into_parts();
-    answer
-}
-
-/// Runs the program over this input, before each read of which the output in the cell is flushed.
-/// None where such a flush failed.
-fn run_flushing<R: Read + Drop, W: Write, E: Write>(
-    alloc: Global,
-    title: &str,
-    asked: Asked,
-    input: R,
-    printed: &RefCell<W>,
-    errors: &mut E,
-) -> Option<u8> {
-    let signature = Cell::new(UNREAD);
-    let noted = SignatureInput::new(input, &signature);
-    let mut reader = Counted::new(FlushingInput::new(noted, printed));
-    let mut writer = Counted::new(SharedOutput::new(printed));
-    let mut teller = Counted::new(errors);
-    let code = run(
-        alloc,
-        title,
-        asked,
-        &signature,
-        &mut reader,
-        &mut writer,
-        &mut teller,
-    );
-    let _writer = writer.into_inner();
-    let _errors = teller.into_inner();
-    if reader.into_inner().flush_failed {
-        return None;
-    }
-    Some(code)
 }

@@ -4,6 +4,7 @@ use crate::stations::member_of;
 use nb_capture::{CaptureOptions, Comments, push_comment};
 use nb_datagram::Datagram;
 use nb_examples_packets::datagrams::datagram_of;
+use nb_examples_words::called;
 use nb_examples_words::devices::{Conduct, Sink, Source, WILLING};
 use nb_examples_words::line::Line;
 use nb_member::{Member, ReplayFault, push_parts, replay, replay_with};
@@ -91,9 +92,10 @@ fn replay_into<'a>(
     sink: &mut Sink,
 ) {
     let mut member = member_of(line, station);
-    line.begin();
-    let answer = replay_by(line.alloc(), way, capture, sink, &mut member);
-    line.end();
+    let answer = called!(
+        line,
+        replay_by(line.alloc(), way, capture, sink, &mut member)
+    );
     match answer {
         Err(ReplayFault::NoMemory) => replay_again(line, station, way, capture, sink.taken()),
         answer => say_replayed(line, way, answer, sink.taken()),
@@ -135,33 +137,20 @@ fn replay_again<'a>(
 
 /// Says what a replay answered, and what was written.
 fn say_replayed(line: &mut Line<'_>, way: Way, answer: Result<u64, ReplayFault>, written: &[u8]) {
-    match answer {
-        Ok(count) => {
-            line.say_with("", count);
-            line.say(" lines:");
-        }
-        Err(fault) => {
-            line.say_with("", fault);
-            line.say(":");
-        }
-    }
-    if written.is_empty() && !way.is_bytes {
-        return;
-    }
-    line.say(" ");
-    match way.is_bytes {
-        true => line.say_bytes(written),
-        false => line.say_lines(written),
+    line.answers(&answer);
+    if way.is_bytes {
+        line.says(&written);
+    } else if !written.is_empty() {
+        line.then("");
+        line.say_lines(written);
     }
 }
 
 /// `datagram DATAGRAM`: all parts of a datagram as a report has them, after `parts`.
 pub fn parts(line: &mut Line<'_>) {
     if let Some(datagram) = datagram_of(line) {
-        line.begin();
-        let text = parts_text(line.alloc(), &datagram);
-        line.end();
-        line.say_called(text.ok());
+        let text = called!(line, parts_text(line.alloc(), &datagram));
+        line.tells(&text);
     }
 }
 
@@ -181,11 +170,9 @@ pub fn comment(line: &mut Line<'_>) {
     };
     let comment = line.bytes();
     let mut text = String::new(line.alloc());
-    line.begin();
-    let answer = push_comment(comments, comment.as_slice(), &mut text);
-    line.end();
+    let answer = called!(line, push_comment(comments, comment.as_slice(), &mut text));
     match answer {
         Ok(()) => line.say_bytes(text.as_bytes()),
-        Err(NoMemory) => line.lacks(),
+        Err(fault) => line.refuses(&fault),
     }
 }

@@ -1,19 +1,20 @@
 //! Fragments of datagrams, keys and kinds, as words say them and as they are said.
 
 use nb_datagram::{Datagram, Fragment, Key, Kind, TooLong};
+use nb_examples_words::called;
 use nb_examples_words::line::Line;
 use nb_names::Name;
 
 /// The parts of a fragment, with data of their own.
 #[derive(Drop)]
 pub struct OwnedFragment {
-    pub kind: Kind,
-    pub flags: u8,
-    pub key: Key,
-    pub offset: u16,
-    pub source: Name,
-    pub destination: Name,
-    pub bytes: Vec<u8>,
+    kind: Kind,
+    flags: u8,
+    key: Key,
+    offset: u16,
+    source: Name,
+    destination: Name,
+    bytes: Vec<u8>,
 }
 
 impl OwnedFragment {
@@ -61,20 +62,21 @@ pub fn next_kind(line: &mut Line<'_>) -> Kind {
     Kind::Broadcast
 }
 
-/// The word for a kind.
-pub fn kind_word(kind: Kind) -> &'static str {
-    match kind {
+/// Says a key after a text: `10.0.0.5:138/0001`.
+pub fn say_key(line: &mut Line<'_>, lead: &str, key: Key) {
+    let [a, b, c, d] = key.ip;
+    let (port, id) = (key.port, key.id);
+    line.say(lead);
+    write!(line, "{a}.{b}.{c}.{d}:{port}/{id:04x}");
+}
+
+/// Says a kind: `unique`, `group` or `broadcast`.
+fn say_kind(line: &mut Line<'_>, kind: Kind) {
+    line.say(match kind {
         Kind::Unique => "unique",
         Kind::Group => "group",
         Kind::Broadcast => "broadcast",
-    }
-}
-
-/// Says a key after a text: `10.0.0.5:138/0001`.
-pub fn say_key(line: &mut Line<'_>, lead: &str, key: Key) {
-    line.say_address(lead, key.ip);
-    line.say_with(":", key.port);
-    line.say_hex_16("/", key.id);
+    });
 }
 
 /// Says the sender's name, the receiver's and the data.
@@ -88,58 +90,44 @@ fn say_rest(line: &mut Line<'_>, source: &Name, target: &Name, bytes: &[u8]) {
 /// Says a fragment: `KIND FLAGS KEY OFFSET SOURCE DESTINATION BYTES`. Its parts are read between
 /// marks.
 pub fn say_fragment(line: &mut Line<'_>, fragment: &Fragment<'_>) {
-    line.begin();
-    let kind = fragment.kind();
-    let flags = fragment.flags();
-    let key = fragment.key();
-    let offset = fragment.offset();
-    let source = fragment.source();
-    let destination = fragment.destination();
-    let bytes = fragment.bytes();
-    line.end();
-    line.say(kind_word(kind));
+    let (kind, flags) = called!(line, (fragment.kind(), fragment.flags()));
+    let (key, offset) = called!(line, (fragment.key(), fragment.offset()));
+    let (source, target) = called!(line, (fragment.source(), fragment.destination()));
+    let bytes = called!(line, fragment.bytes());
+    say_kind(line, kind);
     line.say_hex_8(" ", flags);
     say_key(line, " ", key);
     line.say_with(" ", offset);
-    say_rest(line, source, destination, bytes);
+    say_rest(line, source, target, bytes);
 }
 
 /// Says a datagram: `KIND KEY SOURCE DESTINATION BYTES`. Its parts are read between marks.
 pub fn say_datagram(line: &mut Line<'_>, datagram: &Datagram) {
-    line.begin();
-    let kind = datagram.kind();
-    let key = datagram.key();
-    let source = datagram.source();
-    let destination = datagram.destination();
-    let bytes = datagram.bytes();
-    line.end();
-    line.say(kind_word(kind));
+    let (kind, key) = called!(line, (datagram.kind(), datagram.key()));
+    let (source, target) = called!(line, (datagram.source(), datagram.destination()));
+    let bytes = called!(line, datagram.bytes());
+    say_kind(line, kind);
     say_key(line, " ", key);
-    say_rest(line, source, destination, bytes);
+    say_rest(line, source, target, bytes);
 }
 
 /// `parts FRAGMENT`: the parts of a fragment, whether it is the first one, whether more follow, and
 /// the place after its last byte; or why there is no such fragment.
 pub fn parts(line: &mut Line<'_>) {
     let given = OwnedFragment::of(line);
-    line.begin();
-    let answer = given.fragment();
-    line.end();
+    let answer = called!(line, given.fragment());
     match answer {
         Ok(fragment) => say_parts(line, &fragment),
-        Err(fault) => line.say_with("", fault),
+        Err(fault) => line.refuses(&fault),
     }
 }
 
 /// Says the parts of a fragment and what follows from them.
 fn say_parts(line: &mut Line<'_>, fragment: &Fragment<'_>) {
-    line.begin();
-    let is_first = fragment.is_first();
-    let has_more = fragment.has_more();
-    let reach = fragment.reach();
-    line.end();
     say_fragment(line, fragment);
-    line.say_with("; first ", is_first);
-    line.say_with(", more ", has_more);
-    line.say_with(", reach ", reach);
+    let more = called!(
+        line,
+        (fragment.is_first(), fragment.has_more(), fragment.reach())
+    );
+    line.says(&more);
 }

@@ -1,19 +1,19 @@
 //! Packets of port 137 that are made: requests, responses, records and lists.
 
-use crate::service::{copy_of_question, copy_of_record, front};
-use crate::service_texts::{say_question, say_record};
+use crate::service::{copy_of_question, copy_of_record, front, say_encoded};
 use crate::values::relisted;
+use nb_examples_words::called;
 use nb_examples_words::line::Line;
 use nb_names::Name;
 use nb_service::{
-    AddressEntry, Packet, Question, Record, encode, node_status_request, query, refresh,
-    registration, release, response,
+    AddressEntry, Packet, Record, node_status_request, query, refresh, registration, release,
+    response,
 };
 use nb_streams::NoMemory;
 use std::alloc::Global;
 
 /// What a request says besides its name: whether it is broadcast, for how long, and the entry.
-#[derive(Clone, Copy)]
+#[derive(Drop)]
 struct Details {
     is_broadcast: bool,
     ttl: u32,
@@ -27,9 +27,7 @@ pub fn requested(line: &mut Line<'_>, call: &str) {
     let id = line.hex_16();
     let name = line.name();
     let details = details_of(line, call);
-    line.begin();
-    let packet = request(line.alloc(), call, id, &name, &details);
-    line.end();
+    let packet = called!(line, request(line.alloc(), call, id, &name, &details));
     say_made(line, packet);
 }
 
@@ -40,22 +38,21 @@ fn details_of(line: &mut Line<'_>, call: &str) -> Details {
         "registration" | "refresh" => line.number(),
         _ => 0,
     };
-    let entry = match call {
-        "query" | "node_status_request" => [0; 6],
-        _ => entry_of(line),
+    let mut entry = AddressEntry {
+        flags: 0,
+        address: [0; 4],
     };
+    if !line.is_empty() {
+        entry = AddressEntry {
+            flags: line.hex_16(),
+            address: line.address(),
+        };
+    }
     Details {
         is_broadcast,
         ttl,
-        entry,
+        entry: entry.to_bytes(),
     }
-}
-
-/// The next words, as the bytes of an address entry.
-fn entry_of(line: &mut Line<'_>) -> [u8; 6] {
-    let flags = line.hex_16();
-    let address = line.address();
-    AddressEntry { flags, address }.to_bytes()
 }
 
 /// The request that a call makes.
@@ -66,25 +63,25 @@ fn request<'a>(
     name: &Name,
     details: &'a Details,
 ) -> Result<Packet<'a>, NoMemory> {
-    let is_broadcast = details.is_broadcast;
-    let entry = &details.entry;
+    let Details {
+        is_broadcast,
+        ttl,
+        entry,
+    } = details;
     match call {
-        "query" => query(alloc, id, name, is_broadcast),
-        "node_status_request" => node_status_request(alloc, id, name, is_broadcast),
-        "registration" => registration(alloc, id, name, is_broadcast, details.ttl, entry),
-        "refresh" => refresh(alloc, id, name, is_broadcast, details.ttl, entry),
-        _ => release(alloc, id, name, is_broadcast, entry),
+        "query" => query(alloc, id, name, *is_broadcast),
+        "node_status_request" => node_status_request(alloc, id, name, *is_broadcast),
+        "registration" => registration(alloc, id, name, *is_broadcast, *ttl, entry),
+        "refresh" => refresh(alloc, id, name, *is_broadcast, *ttl, entry),
+        _ => release(alloc, id, name, *is_broadcast, entry),
     }
 }
 
 /// Says the bytes of a packet that was made between marks, if memory didn't run out in it.
 fn say_made(line: &mut Line<'_>, packet: Result<Packet<'_>, NoMemory>) {
     match packet {
-        Ok(packet) => {
-            let bytes = encode(line.alloc(), &packet).ok();
-            line.say_called_bytes(bytes);
-        }
-        Err(NoMemory) => line.lacks(),
+        Ok(packet) => say_encoded(line, &packet),
+        Err(fault) => line.refuses(&fault),
     }
 }
 
@@ -96,12 +93,13 @@ pub fn record(line: &mut Line<'_>) {
     let class = line.hex_16();
     let ttl = line.number();
     let rdata = line.bytes();
-    line.begin();
-    let record = Record::bytes(name, kind, class, ttl, rdata.as_slice());
-    line.end();
+    let record = called!(
+        line,
+        Record::bytes(name, kind, class, ttl, rdata.as_slice())
+    );
     match record {
-        Ok(record) => say_record(line, &record),
-        Err(fault) => line.say_with("", fault),
+        Ok(record) => say_parts(line, &record),
+        Err(fault) => line.refuses(&fault),
     }
 }
 
@@ -111,10 +109,16 @@ pub fn name_server(line: &mut Line<'_>) {
     let class = line.hex_16();
     let ttl = line.number();
     let target = line.domain();
-    line.begin();
-    let record = Record::ns(name, class, ttl, target);
-    line.end();
-    say_record(line, &record);
+    let record = called!(line, Record::ns(name, class, ttl, target));
+    say_parts(line, &record);
+}
+
+/// Says the parts of a record: name, type, class, time to live, and RDATA.
+fn say_parts(line: &mut Line<'_>, record: &Record<'_>) {
+    let parts = called!(line, (record.name(), record.kind(), record.class()));
+    line.says(&parts);
+    let parts = called!(line, (record.ttl(), record.rdata()));
+    line.says(&parts);
 }
 
 /// `response ID WORD NAME TYPE CLASS TTL RDATA`: the bytes of the packet with this answer alone.
@@ -134,9 +138,7 @@ pub fn responded(line: &mut Line<'_>) {
 
 /// Says the bytes of a response, made between marks.
 fn say_response(line: &mut Line<'_>, id: u16, word: u16, record: Record<'_>) {
-    line.begin();
-    let packet = response(line.alloc(), id, word, record);
-    line.end();
+    let packet = called!(line, response(line.alloc(), id, word, record));
     say_made(line, packet);
 }
 
@@ -145,36 +147,16 @@ fn say_response(line: &mut Line<'_>, id: u16, word: u16, record: Record<'_>) {
 pub fn lists(line: &mut Line<'_>) {
     let bytes = line.bytes();
     let packet = front(line, bytes.as_slice());
-    say_questions(line, packet.questions().as_slice());
-    say_answers(line, packet.answers().as_slice());
-}
-
-/// Says what a list of questions has and gives back.
-fn say_questions(line: &mut Line<'_>, questions: &[Question]) {
-    let mut copies = Vec::new(line.alloc());
-    for question in questions {
-        if copies.push(copy_of_question(question)).is_err() {
-            line.no_memory();
-        }
+    let mut questions = Vec::new(line.alloc());
+    for question in packet.questions().as_slice() {
+        line.push(&mut questions, copy_of_question(question));
     }
-    let given_back = relisted(line, copies);
-    line.say(": ");
-    for question in given_back.as_slice() {
-        say_question(line, question);
+    let questions = relisted(line, questions);
+    line.says(&questions);
+    let mut records = Vec::new(line.alloc());
+    for record in packet.answers().as_slice() {
+        line.push(&mut records, copy_of_record(record));
     }
-}
-
-/// Says what a list of records has and gives back.
-fn say_answers(line: &mut Line<'_>, records: &[Record<'_>]) {
-    let mut copies = Vec::new(line.alloc());
-    for record in records {
-        if copies.push(copy_of_record(record)).is_err() {
-            line.no_memory();
-        }
-    }
-    let given_back = relisted(line, copies);
-    line.say(": ");
-    for record in given_back.as_slice() {
-        say_record(line, record);
-    }
+    let records = relisted(line, records);
+    line.says(&records);
 }

@@ -1,6 +1,7 @@
 //! Payloads of any port, as texts, as JSON objects, and told to a sink.
 
 use crate::counting_sink::CountingSink;
+use nb_examples_words::called;
 use nb_examples_words::line::Line;
 use nb_telling::JsonRoom;
 use nb_text::{packet_object, push_packet, tell_packet};
@@ -9,13 +10,11 @@ use nb_text::{packet_object, push_packet, tell_packet};
 pub fn object(line: &mut Line<'_>) {
     let port = line.number();
     let payload = line.bytes();
-    line.begin();
     let room = JsonRoom::new(line.alloc());
-    let answer = packet_object(port, payload.as_slice(), room);
-    line.end();
+    let answer = called!(line, packet_object(port, payload.as_slice(), room));
     match answer {
         Ok(room) => line.say_lines(room.as_slice()),
-        Err(_) => line.lacks(),
+        Err(fault) => line.refuses(&fault),
     }
 }
 
@@ -24,12 +23,10 @@ pub fn text(line: &mut Line<'_>) {
     let port = line.number();
     let payload = line.bytes();
     let mut text = String::new(line.alloc());
-    line.begin();
-    let answer = push_packet(port, payload.as_slice(), &mut text);
-    line.end();
+    let answer = called!(line, push_packet(port, payload.as_slice(), &mut text));
     match answer {
         Ok(()) => line.say_lines(text.as_bytes()),
-        Err(_) => line.lacks(),
+        Err(fault) => line.refuses(&fault),
     }
 }
 
@@ -38,11 +35,9 @@ pub fn count(line: &mut Line<'_>) {
     let port = line.number();
     let payload = line.bytes();
     let mut sink = CountingSink::new();
-    line.begin();
-    let told = tell_packet(port, payload.as_slice(), &mut sink);
-    line.end();
+    let told = called!(line, tell_packet(port, payload.as_slice(), &mut sink));
     match told {
-        Ok(()) => line.say_with("", sink.count),
-        Err(_) => line.no_memory(),
+        Ok(()) => line.says(&sink.count),
+        Err(fault) => line.refuses(&fault),
     }
 }

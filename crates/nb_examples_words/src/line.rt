@@ -96,6 +96,13 @@ impl<'a> Line<'a> {
         self.is_lacking = true;
     }
 
+    /// Adds a value to a list.
+    pub fn push<T: Drop>(&mut self, list: &mut Vec<T>, value: T) {
+        if list.push(value).is_err() {
+            self.no_memory();
+        }
+    }
+
     // ---- Words.
 
     /// Goes on with the words of another text, between which this stands; what was left before is
@@ -219,13 +226,20 @@ impl<'a> Line<'a> {
         address
     }
 
+    /// The next word, as an address and a port: `10.0.0.5:138`.
+    pub fn ends(&mut self) -> ([u8; 4], u16) {
+        let word = self.word();
+        let before = self.enter(word, ":");
+        let ends = (self.address(), self.number());
+        self.leave(before);
+        ends
+    }
+
     /// The next word, as the parts of a key, `10.0.0.5:138/0001`: address, port and identifier.
     pub fn key_parts(&mut self) -> ([u8; 4], u16, u16) {
         let word = self.word();
-        let before = self.enter(word, ":");
-        let ip = self.address();
-        self.rest.between = "/";
-        let port = self.number();
+        let before = self.enter(word, "/");
+        let (ip, port) = self.ends();
         let id = self.hex_16();
         self.leave(before);
         (ip, port, id)
@@ -275,6 +289,14 @@ impl<'a> Line<'a> {
     /// Whether nothing was said.
     pub fn is_silent(&self) -> bool {
         self.said.is_empty()
+    }
+
+    /// Says an answer's text, `; ` before it where it isn't the first.
+    pub fn then(&mut self, text: &str) {
+        if !self.said.is_empty() && !self.said.ends_with(" ") {
+            self.say("; ");
+        }
+        self.say(text);
     }
 
     /// Says a text.
@@ -340,7 +362,7 @@ impl<'a> Line<'a> {
     /// Says that memory ran out in a call that is made again, and whether what has to be as before
     /// is so.
     pub fn again(&mut self, is_same: bool) {
-        self.say(match is_same {
+        self.then(match is_same {
             true => "memory, as before, ",
             false => "memory, changed, ",
         });

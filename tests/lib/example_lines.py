@@ -149,10 +149,10 @@ def asked(call, words):
 
 
 def example(line):
-    """A line as the program reads it."""
-    question, _, answer = line.partition(' = ')
+    """A line as the program reads it, in whose answer a list of no bytes is empty."""
+    question, _, answer = line.replace('[empty]', '[]').partition(' = ')
     call, _, words = question.partition(' ')
-    return f'{call} {asked(call, words)} = {answer}' if words else line
+    return f'{call} {asked(call, words)} = {answer}' if words else f'{question} = {answer}'
 
 
 def define(line, words):

@@ -26,14 +26,18 @@ pub fn read(line: &mut Line<'_>) {
     let mut buffer = line.bytes();
     let conduct = line.conduct();
     let bytes = line.bytes();
+    let mut source = Source::new(bytes.as_slice(), conduct);
+    read_front(line, &mut source, buffer.as_mut_slice());
+    line.says(&(buffer.as_slice(), source.left()));
+}
+
+/// Reads some bytes to the front of others, of which there are some.
+fn read_front(line: &mut Line<'_>, source: &mut Source<'_>, buffer: &mut [u8]) {
     if buffer.is_empty() {
         return line.bad_words();
     }
-    let mut source = Source::new(bytes.as_slice(), conduct);
-    let reader = &mut Counted::new(&mut source);
-    let answer = called!(line, read_some(reader, buffer.as_mut_slice()));
+    let answer = called!(line, read_some(&mut Counted::new(source), buffer));
     line.answers(&answer);
-    line.says(&(buffer.as_slice(), source.left()));
 }
 
 /// `write some DEVICE BYTES`, `write whole DEVICE BYTES`, `write digits DEVICE BYTES`: how many of

@@ -21,11 +21,10 @@ pub fn decoded(line: &mut Line<'_>) {
 /// `decode_lent BYTES`: the same of a packet whose names are lent, too, and that is then made.
 pub fn decoded_lent(line: &mut Line<'_>) {
     let bytes = line.bytes();
-    let answer = called!(line, decode_lent(bytes.as_slice()));
-    say_decoded(
-        line,
-        answer.map(|(packet, used)| (packet.to_packet(), used)),
-    );
+    match called!(line, decode_lent(bytes.as_slice())) {
+        Ok((packet, used)) => say_decoded(line, Ok((packet.to_packet(), used))),
+        Err(fault) => line.refuses(&fault),
+    }
 }
 
 /// Says a packet, and how many bytes it takes up.

@@ -1,7 +1,8 @@
 //! Covers and entries joined.
 
-use crate::steps::{lent, step_of};
+use crate::steps::step_of;
 use nb_datagram::Fragment;
+use nb_examples_packets::fragments::bytes_in;
 use nb_examples_words::line::{Line, cut};
 use nb_examples_words::{asked, called};
 use nb_streams::NoMemory;
@@ -29,10 +30,8 @@ impl Said for Entry {
 
 /// What a step says, made between marks.
 fn made<'a, J: Said + Drop>(line: &mut Line<'a>, step: &'a str) -> Option<J> {
-    let parts = step_of(line, step);
-    let Some(fragment) = lent(line, &parts) else {
-        return None;
-    };
+    let bytes = bytes_in(line, step, ",");
+    let fragment = step_of(line, step, bytes.as_slice())?;
     let value = called!(line, J::of_fragment(line.alloc(), &fragment)).ok();
     if value.is_none() {
         line.lacks();

@@ -2,31 +2,30 @@
 //! question.
 
 use crate::plain::{byte_at, datagram, end_of, is_spoilt, is_whole, promise_of};
-use crate::steps::{lent, say_found, step_of};
+use crate::steps::{say_found, step_of};
 use nb_datagram::{Fragment, Key};
-use nb_examples_packets::fragments::{OwnedFragment, next_key};
+use nb_examples_packets::fragments::{bytes_in, next_key};
 use nb_examples_words::line::Line;
 use nb_table::State;
 
 /// `plain KEY PLACE STEP ..`: what the definitions say of the key: its state, the byte at a place,
 /// its end, its promise, its datagram.
 pub fn plain(line: &mut Line<'_>) {
-    let key = next_key(line);
-    let place: u32 = line.number();
+    let (key, place): (Key, u32) = (next_key(line), line.number());
     let mut steps = Vec::new(line.alloc());
     for step in line.rest().split_whitespace() {
-        let fragment = step_of(line, step);
-        line.push(&mut steps, fragment);
+        let bytes = bytes_in(line, step, ",");
+        line.push(&mut steps, (step, bytes));
     }
-    let fragments = all_lent(line, steps.as_slice());
+    let fragments = fragments_of(line, steps.as_slice());
     say_plain(line, fragments.as_slice(), &key, place);
 }
 
-/// The fragments of these parts.
-fn all_lent<'a>(line: &mut Line<'_>, parts: &'a [OwnedFragment]) -> Vec<Fragment<'a>> {
+/// The fragments of these steps, each of which has its bytes.
+fn fragments_of<'a, 'b>(line: &mut Line<'a>, steps: &'b [(&'a str, Vec<u8>)]) -> Vec<Fragment<'b>> {
     let mut fragments = Vec::new(line.alloc());
-    for one in parts {
-        if let Some(fragment) = lent(line, one) {
+    for (step, bytes) in steps {
+        if let Some(fragment) = step_of(line, *step, bytes.as_slice()) {
             line.push(&mut fragments, fragment);
         }
     }
@@ -35,13 +34,9 @@ fn all_lent<'a>(line: &mut Line<'_>, parts: &'a [OwnedFragment]) -> Vec<Fragment
 
 /// Says what the definitions say of a key.
 fn say_plain(line: &mut Line<'_>, fragments: &[Fragment<'_>], key: &Key, place: u32) {
+    let (state, byte) = (state_of(fragments, key), byte_at(fragments, key, place));
     let (end, promise) = (end_of(fragments, key), promise_of(fragments, key));
-    line.says(&(
-        state_of(fragments, key),
-        byte_at(fragments, key, place),
-        end,
-        promise,
-    ));
+    line.says(&(state, byte, end, promise));
     match datagram(line.alloc(), fragments, key) {
         Ok(found) => say_found(line, &found),
         Err(fault) => line.says(&fault),
@@ -56,8 +51,10 @@ fn state_of(fragments: &[Fragment<'_>], key: &Key) -> State {
     if is_whole(fragments, key) {
         return State::Whole;
     }
-    match fragments.iter().any(|fragment| fragment.key() == *key) {
-        true => State::Partial,
-        false => State::Absent,
+    for fragment in fragments {
+        if fragment.key() == *key {
+            return State::Partial;
+        }
     }
+    State::Absent
 }

@@ -11,39 +11,29 @@ use nb_streams::Bytes;
 /// `run STATION EVENT, EVENT ..`: what comes of a run of a new member. An event is
 /// `take MOMENT PAYLOAD` or `tick NOW`.
 pub fn run_by_one(line: &mut Line<'_>) {
-    let station = line.word();
-    let events = line.rest();
+    let (station, events) = (line.word(), line.rest());
     let mut member = member_of(line, station);
     let events = events_of(line, events);
-    run_member(line, &mut member, events.as_slice());
-}
-
-/// Runs a member, and says what comes of it.
-fn run_member(line: &mut Line<'_>, member: &mut Member, events: &[Event]) {
-    let report = called!(line, run(line.alloc(), member, events));
-    say_run(line, &report, member, events);
+    let events = events.as_slice();
+    let report = called!(line, run(line.alloc(), &mut member, events));
+    say_run(line, &report, &mut member, events);
 }
 
 /// `two STATION NAMES EVENTS | EVENTS`: what comes of the runs of two new members, the second of
 /// which has these names, and whether their tables are equal.
 pub fn run_by_two(line: &mut Line<'_>) {
-    let station = line.word();
-    let other = line.word();
+    let (station, other) = (line.word(), line.word());
     let (a, b) = line.halves(" | ");
-    let a = events_of(line, a);
-    let b = events_of(line, b);
+    let (a, b) = (events_of(line, a), events_of(line, b));
     run_pair(line, station, other, a.as_slice(), b.as_slice());
 }
 
 /// Runs two new members, and says what comes of it.
 fn run_pair<'a>(line: &mut Line<'a>, station: &'a str, other: &str, a: &[Event], b: &[Event]) {
     let settings = settings_of(line, station);
-    let names = names_of(line, station);
-    let others = names_of(line, other);
-    let mut pair = called!(
-        line,
-        two_members(line.alloc(), settings, names, others, a, b)
-    );
+    let (names, others) = (names_of(line, station), names_of(line, other));
+    let alloc = line.alloc();
+    let mut pair = called!(line, two_members(alloc, settings, names, others, a, b));
     say_run(line, &pair.report_a, &mut pair.a, a);
     say_run(line, &pair.report_b, &mut pair.b, b);
     line.says(&pair.a.table().same(pair.b.table()));
@@ -63,8 +53,7 @@ fn events_of<'a>(line: &mut Line<'a>, text: &'a str) -> Vec<Event> {
 
 /// The event that the next words say.
 fn next_event(line: &mut Line<'_>) -> Event {
-    let is_packet = line.is_word("take", "tick");
-    let moment = line.number();
+    let (is_packet, moment) = (line.is_word("take", "tick"), line.number());
     match is_packet {
         true => Event::Packet {
             moment,
@@ -78,21 +67,17 @@ fn next_event(line: &mut Line<'_>) -> Event {
 /// handed over, the error packets, and how many keys the table holds. Where memory ran out, another
 /// run goes on after the events that were taken.
 fn say_run(line: &mut Line<'_>, report: &RunReport, member: &mut Member, events: &[Event]) {
-    let is_lacking = matches!(report.stop, Some(RunStop::NoMemory));
-    let rest = match is_lacking {
-        true => events.get(report.taken..).unwrap_or(events),
-        false => &[],
-    };
+    let mut stop = report.stop;
+    let mut rest: &[Event] = &[];
+    if let Some(RunStop::NoMemory) = stop {
+        line.then("memory, ");
+        stop = None;
+        rest = events.get(report.taken..).unwrap_or(events);
+    }
     let after = run(line.alloc(), member, rest);
     let taken = report.taken.saturating_add(after.taken);
     let refused = report.refused.saturating_add(after.refused);
-    match is_lacking {
-        true => {
-            line.then("memory, ");
-            line.says(&(taken, refused, after.stop));
-        }
-        false => line.says(&(taken, refused, report.stop)),
-    }
+    line.says(&(taken, refused, stop.or(after.stop)));
     say_handed(line, report);
     say_handed(line, &after);
     line.says(&member.table().len());

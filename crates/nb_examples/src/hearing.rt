@@ -3,7 +3,7 @@
 use crate::stations::names_of;
 use nb_examples_packets::datagrams::datagram_of;
 use nb_examples_words::line::Line;
-use nb_examples_words::{asked, called};
+use nb_examples_words::{asked, said};
 use nb_member::LocalNames;
 use nb_names::Name;
 
@@ -23,26 +23,22 @@ pub fn held(line: &mut Line<'_>) {
 
 /// Says what is answered to the next words.
 fn say_step(line: &mut Line<'_>, names: &mut LocalNames) {
-    let is_added = line.is_word("add", "holds");
-    let name = line.name();
+    let (is_added, name) = (line.is_word("add", "holds"), line.name());
     match is_added {
         true => add(line, names, &name),
-        false => {
-            let answers = holds(line, names, &name);
-            line.says(&answers);
-        }
+        false => said!(line, says, holds(names, &name)),
     }
 }
 
 /// Adds a name, and says what was answered.
 fn add(line: &mut Line<'_>, names: &mut LocalNames, name: &Name) {
-    let answer = asked!(line, names.add(name.copied()), holds(line, names, name));
+    let answer = asked!(line, names.add(name.copied()), holds(names, name));
     line.answers(&answer);
 }
 
 /// Whether names hold one, and one of its scope.
-fn holds(line: &mut Line<'_>, names: &LocalNames, name: &Name) -> (bool, bool) {
-    called!(line, (names.holds(name), names.holds_scope(name.scope())))
+fn holds(names: &LocalNames, name: &Name) -> (bool, bool) {
+    (names.holds(name), names.holds_scope(name.scope()))
 }
 
 /// `hears STATION DATAGRAM`: whether a station hears a datagram.
@@ -50,7 +46,6 @@ pub fn heard(line: &mut Line<'_>) {
     let station = line.word();
     let names = names_of(line, station);
     if let Some(datagram) = datagram_of(line) {
-        let is_heard = called!(line, names.hears(&datagram));
-        line.says(&is_heard);
+        said!(line, says, names.hears(&datagram));
     }
 }

@@ -1,7 +1,8 @@
 //! Fragments inserted into tables.
 
-use crate::steps::{lent, reads, say_change, say_fault, step_of, table_of};
+use crate::steps::{reads, say_change, say_fault, step_of, table_of};
 use nb_datagram::Fragment;
+use nb_examples_packets::fragments::bytes_in;
 use nb_examples_words::line::Line;
 use nb_examples_words::{asked, called};
 use nb_table::{Change, Handing, Table, TableFault};
@@ -13,8 +14,8 @@ pub fn inserts(line: &mut Line<'_>, call: &str) {
     let (table, steps) = line.halves(" | ");
     let mut table = table_of(line, table);
     for step in steps.split_whitespace() {
-        let parts = step_of(line, step);
-        if let Some(fragment) = lent(line, &parts) {
+        let bytes = bytes_in(line, step, ",");
+        if let Some(fragment) = step_of(line, step, bytes.as_slice()) {
             match call {
                 "refusals" => say_refusal(line, &table, &fragment),
                 _ => say_insert(line, call, &mut table, &fragment),

@@ -1,18 +1,17 @@
 //! Tables merged and joined.
 
 use crate::steps::{reads, say_fault, say_saved, table_of, two_tables};
-use nb_datagram::Datagrams;
+use nb_datagram::Datagram;
 use nb_examples_packets::fragments::say_datagram;
 use nb_examples_words::line::Line;
-use nb_examples_words::{asked, called};
+use nb_examples_words::{asked, called, said};
 use nb_table::{Join, Table, TableFault, join_all, take_in_all};
 
 /// `fits TABLE | TABLE`: whether both tables have the same contents, and whether the first takes in
 /// the second.
 pub fn fits(line: &mut Line<'_>) {
     let (one, other) = two_tables(line);
-    let answer = called!(line, (one.same(&other), one.fits(&other)));
-    line.says(&answer);
+    said!(line, says, (one.same(&other), one.fits(&other)));
 }
 
 /// `merge TABLE | TABLE ..`: what the first table hands over as it merges each of the others, one
@@ -30,14 +29,13 @@ pub fn merged(line: &mut Line<'_>) {
 fn merge(line: &mut Line<'_>, table: &mut Table, other: &Table) {
     let answer = asked!(line, table.merge(other), reads(line, table));
     match answer {
-        Ok(datagrams) => say_datagrams(line, &datagrams),
+        Ok(datagrams) => say_datagrams(line, datagrams.as_slice()),
         Err(fault) => say_fault(line, fault),
     }
 }
 
 /// Says how many datagrams there are, and each of them.
-fn say_datagrams(line: &mut Line<'_>, datagrams: &Datagrams) {
-    let datagrams = datagrams.as_slice();
+fn say_datagrams(line: &mut Line<'_>, datagrams: &[Datagram]) {
     line.says(&datagrams.len());
     for datagram in datagrams {
         line.then("");
@@ -49,14 +47,9 @@ fn say_datagrams(line: &mut Line<'_>, datagrams: &Datagrams) {
 /// what the first is saved as.
 pub fn joined(line: &mut Line<'_>) {
     let (mut table, other) = two_tables(line);
-    join(line, &mut table, &other);
-    say_saved(line, &table);
-}
-
-/// Joins a table into another, and says what was answered.
-fn join(line: &mut Line<'_>, table: &mut Table, other: &Table) {
-    let answer = asked!(line, table.join(other), reads(line, table));
+    let answer = asked!(line, table.join(&other), reads(line, &table));
     say_joined(line, answer);
+    say_saved(line, &table);
 }
 
 /// Says what the join of a table answered.
@@ -101,10 +94,13 @@ pub fn joined_all(line: &mut Line<'_>, is_taken_in: bool) {
         line.again(is_same);
         answer = put_all(is_taken_in, &mut table, tables);
     }
-    if let Err((place, _)) = answer {
-        line.says(&place);
+    match answer {
+        Ok(()) => line.then("joined"),
+        Err((place, fault)) => {
+            line.says(&place);
+            say_fault(line, fault);
+        }
     }
-    say_joined(line, answer.map_err(|(_, fault)| fault));
     say_saved(line, &table);
 }
 

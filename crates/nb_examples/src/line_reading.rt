@@ -1,16 +1,15 @@
 //! Lines of captures: what one says, and the lines of an input, read one after another.
 
 use nb_capture::{LineReadFault, LineRoom, capture_line, next_from, next_line};
-use nb_examples_words::called;
 use nb_examples_words::devices::Source;
 use nb_examples_words::line::Line;
+use nb_examples_words::{called, said};
 use nb_streams::Counted;
 
 /// `line BYTES`: what a line of a capture says, if it says anything.
 pub fn read(line: &mut Line<'_>) {
     let bytes = line.bytes();
-    let read = called!(line, capture_line(line.alloc(), bytes.as_slice()));
-    line.answers(&read);
+    said!(line, answers, capture_line(line.alloc(), bytes.as_slice()));
 }
 
 /// `next CALLS DEVICE BYTES`: how many bytes a new room has, what each of so many calls for the
@@ -20,12 +19,10 @@ pub fn read(line: &mut Line<'_>) {
 pub fn each_line(line: &mut Line<'_>, is_within: bool) {
     let mut room = room_for(line, is_within);
     let calls: u64 = line.number();
-    let conduct = line.conduct();
-    let capture = line.bytes();
+    let (conduct, capture) = (line.conduct(), line.bytes());
     let mut source = Source::new(capture.as_slice(), conduct);
     let mut reader = Counted::new(&mut source);
-    let held = called!(line, room.held());
-    line.says(&held);
+    said!(line, says, room.held());
     for _ in 0..calls {
         say_next(line, &mut reader, &mut room, is_within);
     }

@@ -2,28 +2,21 @@
 
 use crate::steps::{rest_table, say_found, say_keys, say_saved, two_tables};
 use nb_examples_packets::fragments::next_key;
-use nb_examples_words::called;
-use nb_examples_words::devices::Sink;
 use nb_examples_words::line::Line;
+use nb_examples_words::{called, given, said};
 use nb_streams::Counted;
 use nb_table::{Table, load};
 
-/// For how many digits a writer has room, so that writing them wants no memory.
-const SAVED_ROOM: usize = 1_000;
-
 /// `known KEY TABLE`: what the table knows of the key, and how many runs its known bytes make up.
 pub fn known(line: &mut Line<'_>) {
-    let key = next_key(line);
-    let table = rest_table(line);
-    let known = called!(line, (table.state(&key), table.run_count(&key)));
-    line.says(&known);
+    let (key, table) = (next_key(line), rest_table(line));
+    said!(line, says, (table.state(&key), table.run_count(&key)));
 }
 
 /// `outline KEY TABLE`: all that the table knows of the key but its bytes, and the ranges of the
 /// known bytes.
 pub fn outlined(line: &mut Line<'_>) {
-    let key = next_key(line);
-    let table = rest_table(line);
+    let (key, table) = (next_key(line), rest_table(line));
     let known = called!(line, (table.outline(&key), table.ranges(&key).count()));
     line.says(&known);
     for range in table.ranges(&key) {
@@ -34,8 +27,7 @@ pub fn outlined(line: &mut Line<'_>) {
 /// `drop KEY TABLE`: what two calls of `drop_key` answer, one after the other, what the table then
 /// knows of the key, and how many keys are left.
 pub fn dropped(line: &mut Line<'_>) {
-    let key = next_key(line);
-    let mut table = rest_table(line);
+    let (key, mut table) = (next_key(line), rest_table(line));
     let dropped = called!(line, (table.drop_key(&key), table.drop_key(&key)));
     line.says(&dropped);
     line.says(&(table.state(&key), table.len()));
@@ -62,48 +54,36 @@ pub fn same_at(line: &mut Line<'_>) {
 /// `write_saved DEVICE TABLE`: whether the digits of the bytes that the table is saved as are
 /// written, and the digits that the device has taken, as bytes.
 pub fn saved_to_device(line: &mut Line<'_>) {
-    let conduct = line.conduct();
-    let table = rest_table(line);
-    let Ok(mut sink) = Sink::with_room(line.alloc(), SAVED_ROOM, conduct) else {
-        return line.no_memory();
-    };
-    let answer = called!(line, table.write_saved(&mut Counted::new(&mut sink)));
-    line.answers(&answer);
+    let (conduct, table) = (line.conduct(), rest_table(line));
+    let mut sink = line.sink(conduct);
+    said!(
+        line,
+        answers,
+        table.write_saved(&mut Counted::new(&mut sink))
+    );
     line.then("");
     line.say_lines(sink.taken());
 }
 
 /// `datagram KEY TABLE`: the key's datagram, `KIND KEY SOURCE DESTINATION BYTES`, or `none`.
 pub fn datagram(line: &mut Line<'_>) {
-    let key = next_key(line);
-    let table = rest_table(line);
-    let answer = called!(line, table.datagram(&key));
-    match answer {
-        Ok(found) => say_found(line, &found),
-        Err(fault) => line.refuses(&fault),
-    }
+    let (key, table) = (next_key(line), rest_table(line));
+    let found = given!(line, table.datagram(&key));
+    say_found(line, &found);
 }
 
 /// `save TABLE`: the bytes that the table is saved as.
 pub fn saved(line: &mut Line<'_>) {
     let table = rest_table(line);
-    let answer = called!(line, table.save());
-    line.gives(&answer);
+    said!(line, gives, table.save());
 }
 
 /// `load CAPACITY LONGEST BYTES`: what the table that is loaded from the bytes with these limits is
 /// saved as again, or why there is none.
 pub fn loaded(line: &mut Line<'_>) {
     let (keys, per_source) = line.capacity();
-    let longest = line.number();
-    let bytes = line.bytes();
-    let alloc = line.alloc();
-    let loaded = called!(
-        line,
-        load(alloc, bytes.as_slice(), keys, per_source, longest)
-    );
-    match loaded {
-        Ok(table) => say_saved(line, &table),
-        Err(fault) => line.refuses(&fault),
-    }
+    let (longest, bytes) = (line.number(), line.bytes());
+    let (alloc, bytes) = (line.alloc(), bytes.as_slice());
+    let table = given!(line, load(alloc, bytes, keys, per_source, longest));
+    say_saved(line, &table);
 }

@@ -1,21 +1,18 @@
 //! Steps: fragments in one word, and tables made of them.
 
 use nb_datagram::{Datagram, Fragment};
-use nb_examples_packets::fragments::{OwnedFragment, say_datagram, say_key};
+use nb_examples_packets::fragments::{bytes_in, fragment_in, say_datagram, say_key};
 use nb_examples_words::line::Line;
 use nb_table::{Change, Table, TableFault};
 
-/// The fragment that a step says, `KIND,FLAGS,KEY,OFFSET,SOURCE,DESTINATION,BYTES`.
-pub fn step_of<'a>(line: &mut Line<'a>, step: &'a str) -> OwnedFragment {
-    let before = line.enter(step, ",");
-    let fragment = OwnedFragment::of(line);
-    line.leave(before);
-    fragment
-}
-
-/// The fragment of these parts.
-pub fn lent<'a>(line: &mut Line<'_>, parts: &'a OwnedFragment) -> Option<Fragment<'a>> {
-    let fragment = parts.fragment().ok();
+/// The fragment that a step says, `KIND,FLAGS,KEY,OFFSET,SOURCE,DESTINATION,BYTES`, which lends its
+/// bytes.
+pub fn step_of<'a, 'b>(
+    line: &mut Line<'a>,
+    step: &'a str,
+    bytes: &'b [u8],
+) -> Option<Fragment<'b>> {
+    let fragment = fragment_in(line, step, ",", bytes).ok();
     if fragment.is_none() {
         line.bad_words();
     }
@@ -29,8 +26,8 @@ pub fn rest_table(line: &mut Line<'_>) -> Table {
     let longest = line.number();
     let mut table = Table::new(line.alloc(), keys, per_source, longest);
     for step in line.rest().split_whitespace() {
-        let parts = step_of(line, step);
-        if let Some(fragment) = lent(line, &parts) {
+        let bytes = bytes_in(line, step, ",");
+        if let Some(fragment) = step_of(line, step, bytes.as_slice()) {
             if let Err(TableFault::NoMemory) = table.insert(&fragment) {
                 line.no_memory();
             }

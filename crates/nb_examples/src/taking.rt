@@ -6,7 +6,7 @@ use crate::steps::{reads, say_fault};
 use nb_datagram::{Datagrams, ErrorPacket};
 use nb_examples_packets::fragments::{say_datagram, say_key};
 use nb_examples_words::line::Line;
-use nb_examples_words::{asked, called};
+use nb_examples_words::{asked, given, said};
 use nb_member::{Member, MemberFault, Outcome, list_keys};
 use nb_table::{Table, TableFault};
 
@@ -17,8 +17,7 @@ use nb_table::{Table, TableFault};
 /// of the keys, and `settings` what the member was set up with. `took` and `take` are one, but that
 /// the call of `took` doesn't stand between marks.
 pub fn taken(line: &mut Line<'_>) {
-    let station = line.word();
-    let steps = line.rest();
+    let (station, steps) = (line.word(), line.rest());
     let mut member = member_of(line, station);
     let none = Table::new(line.alloc(), 0, 0, 0);
     for step in steps.split(", ") {
@@ -31,11 +30,8 @@ pub fn taken(line: &mut Line<'_>) {
 /// A step is `a` or `b` and what that one does, as `take` has it, or `absorb MOMENT`: it takes in
 /// the other's table; `preview`: what it would hand over; or `same`: whether the tables are equal.
 pub fn taken_by_both(line: &mut Line<'_>) {
-    let one = line.word();
-    let other = line.word();
-    let steps = line.rest();
-    let mut a = member_of(line, one);
-    let mut b = member_of(line, other);
+    let (one, other, steps) = (line.word(), line.word(), line.rest());
+    let (mut a, mut b) = (member_of(line, one), member_of(line, other));
     for step in steps.split(", ") {
         match step.split_once(" ") {
             Some(("a", step)) => say_step(line, step, &mut a, b.table()),
@@ -62,37 +58,31 @@ fn say_step<'a>(line: &mut Line<'a>, step: &'a str, member: &mut Member, other: 
 /// Says what a member answers to a word that changes nothing.
 fn say_of(line: &mut Line<'_>, word: &str, member: &Member, other: &Table) {
     match word {
-        "keys" => {
-            let keys = called!(line, member.table().len());
-            line.says(&keys);
-        }
+        "keys" => said!(line, says, member.table().len()),
         "list" => list(line, member.table()),
-        "settings" => {
-            let settings = called!(line, member.settings());
-            line.says(&settings);
-        }
+        "settings" => said!(line, says, member.settings()),
         "preview" => preview(line, member, other),
         "same" => line.says(&member.table().same(other)),
         _ => line.bad_words(),
     }
 }
 
+/// What a member's table answers.
+fn held(line: &mut Line<'_>, member: &Member) -> String {
+    reads(line, member.table())
+}
+
 /// `take MOMENT PAYLOAD`.
 fn take(line: &mut Line<'_>, member: &mut Member) {
-    let moment = line.number();
-    let payload = line.bytes();
-    let answer = asked!(
-        line,
-        member.take(moment, payload.as_slice()),
-        reads(line, member.table())
-    );
+    let (moment, payload) = (line.number(), line.bytes());
+    let payload = payload.as_slice();
+    let answer = asked!(line, member.take(moment, payload), held(line, member));
     say_taken(line, answer);
 }
 
 /// `took MOMENT PAYLOAD`.
 fn take_unmarked(line: &mut Line<'_>, member: &mut Member) {
-    let moment = line.number();
-    let payload = line.bytes();
+    let (moment, payload) = (line.number(), line.bytes());
     say_taken(line, member.take(moment, payload.as_slice()));
 }
 
@@ -136,13 +126,9 @@ fn say_answer(line: &mut Line<'_>, error: Option<ErrorPacket>) {
 
 /// `hold MOMENT PAYLOAD`.
 fn hold(line: &mut Line<'_>, member: &mut Member) {
-    let moment = line.number();
-    let payload = line.bytes();
-    let answer = asked!(
-        line,
-        member.hold(moment, payload.as_slice()),
-        reads(line, member.table())
-    );
+    let (moment, payload) = (line.number(), line.bytes());
+    let payload = payload.as_slice();
+    let answer = asked!(line, member.hold(moment, payload), held(line, member));
     match answer {
         Ok(()) => line.then("held"),
         Err(fault) => say_refused(line, fault),
@@ -152,24 +138,19 @@ fn hold(line: &mut Line<'_>, member: &mut Member) {
 /// `tick NOW`.
 fn tick(line: &mut Line<'_>, member: &mut Member) {
     let now = line.number();
-    let dropped = called!(line, member.tick(now));
-    line.says(&dropped);
+    said!(line, says, member.tick(now));
 }
 
 /// `absorb MOMENT`.
 fn absorb(line: &mut Line<'_>, member: &mut Member, other: &Table) {
     let moment = line.number();
-    let answer = asked!(
-        line,
-        member.absorb(other, moment),
-        reads(line, member.table())
-    );
+    let answer = asked!(line, member.absorb(other, moment), held(line, member));
     say_handed_over(line, answer);
 }
 
 /// `preview`.
 fn preview(line: &mut Line<'_>, member: &Member, other: &Table) {
-    let answer = asked!(line, member.preview(other), reads(line, member.table()));
+    let answer = asked!(line, member.preview(other), held(line, member));
     say_handed_over(line, answer);
 }
 
@@ -186,14 +167,9 @@ fn say_handed_over(line: &mut Line<'_>, handed: Result<Datagrams, TableFault>) {
 
 /// `list`: the lines of a table's keys.
 fn list(line: &mut Line<'_>, table: &Table) {
-    let lines = called!(line, list_keys(line.alloc(), table));
-    match lines {
-        Ok(lines) => {
-            line.then("listed");
-            for listed in lines.lines() {
-                line.then(listed);
-            }
-        }
-        Err(fault) => line.refuses(&fault),
+    let lines = given!(line, list_keys(line.alloc(), table));
+    line.then("listed");
+    for listed in lines.lines() {
+        line.then(listed);
     }
 }

@@ -3,23 +3,17 @@
 use crate::datagrams::{datagram_of, next_datagram};
 use crate::fragments::{next_key, next_kind, say_datagram};
 use crate::values::relisted;
-use nb_datagram::{ErrorPacket, Fragment, Packet, cut, decode, encode, kind_name, push_key};
-use nb_examples_words::called;
+use nb_datagram::{ErrorPacket, Packet, cut, decode, encode, kind_name, push_key};
 use nb_examples_words::line::Line;
+use nb_examples_words::{called, given, said};
 
 /// `again BYTES`: the bytes of the packet at the front, encoded.
 pub fn encoded_again(line: &mut Line<'_>) {
     let bytes = line.bytes();
     match decode(bytes.as_slice()) {
-        Ok((packet, _)) => say_encoded(line, &packet),
+        Ok((packet, _)) => said!(line, gives, encode(line.alloc(), &packet)),
         Err(_) => line.bad_words(),
     }
-}
-
-/// Says a packet's bytes, made between marks.
-fn say_encoded(line: &mut Line<'_>, packet: &Packet<'_>) {
-    let bytes = called!(line, encode(line.alloc(), packet));
-    line.gives(&bytes);
 }
 
 /// `datagram KIND KEY SOURCE DESTINATION BYTES`: the parts of the datagram of these, or why there
@@ -38,16 +32,8 @@ pub fn cut_up(line: &mut Line<'_>) {
     let Some(datagram) = datagram_of(line) else {
         return;
     };
-    let answer = called!(line, cut(line.alloc(), &datagram, most));
-    match answer {
-        Ok(pieces) => say_pieces(line, pieces.as_slice()),
-        Err(fault) => line.refuses(&fault),
-    }
-}
-
-/// Says pieces, one after another.
-fn say_pieces(line: &mut Line<'_>, pieces: &[Fragment<'_>]) {
-    for piece in pieces {
+    let pieces = given!(line, cut(line.alloc(), &datagram, most));
+    for piece in pieces.as_slice() {
         line.says(&(piece.flags(), piece.offset(), piece.bytes()));
     }
 }
@@ -59,15 +45,11 @@ pub fn packets(line: &mut Line<'_>) {
     let Some(datagram) = datagram_of(line) else {
         return;
     };
-    match cut(line.alloc(), &datagram, most) {
-        Ok(pieces) => say_packets(line, pieces.into_vec()),
-        Err(fault) => line.refuses(&fault),
-    }
-}
-
-/// Says how many pieces there are, and their packets.
-fn say_packets(line: &mut Line<'_>, pieces: Vec<Fragment<'_>>) {
-    for piece in relisted(line, pieces) {
+    let pieces = match cut(line.alloc(), &datagram, most) {
+        Ok(pieces) => pieces,
+        Err(fault) => return line.refuses(&fault),
+    };
+    for piece in relisted(line, pieces.into_vec()) {
         let bytes = encode(line.alloc(), &Packet::Direct(piece));
         line.gives(&bytes);
     }
@@ -103,8 +85,7 @@ pub fn key_text(line: &mut Line<'_>) {
 /// `kind KIND`: the word for a kind, and the type of its packets.
 pub fn kind_text(line: &mut Line<'_>) {
     let kind = next_kind(line);
-    let answer = called!(line, (kind_name(kind), kind.message_type()));
-    line.says(&answer);
+    said!(line, says, (kind_name(kind), kind.message_type()));
 }
 
 /// `errors KEY CODES`: how many items a list of error packets with these codes has, and those

@@ -1,7 +1,7 @@
 //! Data as texts have them.
 
-use nb_examples_words::called;
 use nb_examples_words::line::Line;
+use nb_examples_words::{called, said};
 use nb_streams::{bytes_of_digits, data_in, data_of_text};
 use std::alloc::AllocError;
 
@@ -32,13 +32,11 @@ fn read_text(line: &mut Line<'_>, room: Vec<u8>, text: &[u8]) -> Vec<u8> {
 /// `digits BYTES`: the bytes for which the digits of a text stand, or why they stand for none.
 pub fn of_digits(line: &mut Line<'_>) {
     let text = line.bytes();
-    let answer = called!(line, bytes_of_digits(line.alloc(), text.as_slice()));
-    line.gives(&answer);
+    said!(line, gives, bytes_of_digits(line.alloc(), text.as_slice()));
 }
 
 /// `data BYTES`: the same of a text that may be `empty`.
 pub fn of_text(line: &mut Line<'_>) {
     let text = line.bytes();
-    let answer = called!(line, data_of_text(line.alloc(), text.as_slice()));
-    line.gives(&answer);
+    said!(line, gives, data_of_text(line.alloc(), text.as_slice()));
 }

@@ -1,11 +1,9 @@
 //! Packets of port 138, as they are said, and datagrams as words say them.
 
 use crate::fragments::{next_key, next_kind, say_fragment};
-use nb_datagram::{
-    Datagram, DatagramFault, Front, Packet, TooLong, decode, decode_lent, read_front,
-};
-use nb_examples_words::called;
+use nb_datagram::{Datagram, Packet, TooLong, decode, decode_lent, read_front};
 use nb_examples_words::line::Line;
+use nb_examples_words::{called, given};
 use nb_streams::Bytes;
 
 /// `decode BYTES`: the packet at the front, and how many bytes it takes up.
@@ -14,37 +12,25 @@ use nb_streams::Bytes;
 /// `group` or `broadcast`; another packet is as `Debug` prints it.
 pub fn decoded(line: &mut Line<'_>) {
     let bytes = line.bytes();
-    let answer = called!(line, decode(bytes.as_slice()));
-    say_decoded(line, answer);
+    let (packet, used) = given!(line, decode(bytes.as_slice()));
+    say_decoded(line, &packet, used);
 }
 
 /// `decode_lent BYTES`: the same of a packet whose names are lent, too, and that is then made.
 pub fn decoded_lent(line: &mut Line<'_>) {
     let bytes = line.bytes();
-    match called!(line, decode_lent(bytes.as_slice())) {
-        Ok((packet, used)) => say_decoded(line, Ok((packet.to_packet(), used))),
-        Err(fault) => line.refuses(&fault),
-    }
+    let (packet, used) = given!(line, decode_lent(bytes.as_slice()));
+    say_decoded(line, &packet.to_packet(), used);
 }
 
 /// Says a packet, and how many bytes it takes up.
-fn say_decoded(line: &mut Line<'_>, answer: Result<(Packet<'_>, usize), DatagramFault>) {
-    match answer {
-        Ok((packet, used)) => {
-            say_packet(line, &packet);
-            line.says(&used);
-        }
-        Err(fault) => line.refuses(&fault),
-    }
-}
-
-/// Says a packet.
-fn say_packet(line: &mut Line<'_>, packet: &Packet<'_>) {
+fn say_decoded(line: &mut Line<'_>, packet: &Packet<'_>, used: usize) {
     match packet {
         Packet::Direct(fragment) => say_fragment(line, fragment),
         Packet::Error(error) => line.says(error),
         Packet::Query(query) => line.says(query),
     }
+    line.says(&used);
 }
 
 /// `front BYTES`: what stands at the front, whether or not a packet does: MSG_TYPE, FLAGS and the
@@ -52,15 +38,10 @@ fn say_packet(line: &mut Line<'_>, packet: &Packet<'_>) {
 /// whole.
 pub fn front(line: &mut Line<'_>) {
     let bytes = line.bytes();
-    let answer = called!(line, read_front(bytes.as_slice()));
-    match answer {
-        Some(front) => say_front(line, &front),
-        None => line.say("none"),
-    }
-}
-
-/// Says what stands.
-fn say_front(line: &mut Line<'_>, front: &Front<'_>) {
+    let front = called!(line, read_front(bytes.as_slice()));
+    let Some(front) = front else {
+        return line.say("none");
+    };
     line.says(&(front.message_type, front.flags, front.key));
     if let Some(fragment) = &front.fragment {
         line.says(&(fragment.offset, &fragment.source, &fragment.destination));
@@ -78,10 +59,8 @@ pub fn datagram_of(line: &mut Line<'_>) -> Option<Datagram> {
 
 /// The datagram that the next words say, made between marks, or why there is none.
 pub fn next_datagram(line: &mut Line<'_>) -> Result<Datagram, TooLong> {
-    let kind = next_kind(line);
-    let key = next_key(line);
-    let source = line.name();
-    let destination = line.name();
+    let (kind, key) = (next_kind(line), next_key(line));
+    let (source, destination) = (line.name(), line.name());
     let data = Bytes::from_vec(line.bytes());
     called!(line, Datagram::new(key, kind, source, destination, data))
 }

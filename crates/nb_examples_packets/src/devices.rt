@@ -1,14 +1,11 @@
 //! What is read from devices and written to them.
 
-use nb_examples_words::called;
 use nb_examples_words::devices::{Sink, Source};
 use nb_examples_words::line::Line;
+use nb_examples_words::{called, said};
 use nb_streams::Counted;
 use nb_streams::input::{read_input, read_some};
 use nb_streams::output::{write_digits, write_some, write_whole};
-
-/// For how many bytes a writer has room, so that writing them wants no memory.
-const ROOM: usize = 1_000;
 
 /// `read_input BYTES`: what is read of an input, whether that is all of it, and how many bytes are
 /// looked at.
@@ -23,9 +20,7 @@ pub fn input(line: &mut Line<'_>) {
 /// `read_some BYTES DEVICE BYTES`: how many bytes are read from a device to the front of the first
 /// ones, or the fault, what stands there then, and what the device has left.
 pub fn read(line: &mut Line<'_>) {
-    let mut buffer = line.bytes();
-    let conduct = line.conduct();
-    let bytes = line.bytes();
+    let (mut buffer, conduct, bytes) = (line.bytes(), line.conduct(), line.bytes());
     let mut source = Source::new(bytes.as_slice(), conduct);
     read_front(line, &mut source, buffer.as_mut_slice());
     line.says(&(buffer.as_slice(), source.left()));
@@ -36,20 +31,15 @@ fn read_front(line: &mut Line<'_>, source: &mut Source<'_>, buffer: &mut [u8]) {
     if buffer.is_empty() {
         return line.bad_words();
     }
-    let answer = called!(line, read_some(&mut Counted::new(source), buffer));
-    line.answers(&answer);
+    said!(line, answers, read_some(&mut Counted::new(source), buffer));
 }
 
 /// `write some DEVICE BYTES`, `write whole DEVICE BYTES`, `write digits DEVICE BYTES`: how many of
 /// the bytes are written to a device, or that all are, or their digits, or the fault; and what the
 /// device has taken.
 pub fn written(line: &mut Line<'_>) {
-    let what = line.word();
-    let conduct = line.conduct();
-    let bytes = line.bytes();
-    let Ok(mut sink) = Sink::with_room(line.alloc(), ROOM, conduct) else {
-        return line.no_memory();
-    };
+    let (what, conduct, bytes) = (line.word(), line.conduct(), line.bytes());
+    let mut sink = line.sink(conduct);
     match what {
         "some" => say_some(line, &mut sink, bytes.as_slice()),
         _ => say_whole(line, what == "digits", &mut sink, bytes.as_slice()),
@@ -62,8 +52,7 @@ fn say_some(line: &mut Line<'_>, sink: &mut Sink, bytes: &[u8]) {
     if bytes.is_empty() {
         return line.bad_words();
     }
-    let answer = called!(line, write_some(&mut Counted::new(sink), bytes));
-    line.answers(&answer);
+    said!(line, answers, write_some(&mut Counted::new(sink), bytes));
 }
 
 /// Writes all the bytes, or their digits, and says what was answered.

@@ -11,8 +11,7 @@ use nb_session::{Parsed, parse_lent};
 /// `fault POINTERS AT BYTES` of nb_names: why no NetBIOS name stands at an offset.
 pub fn of_name(line: &mut Line<'_>) {
     let pointers = pointers(line);
-    let at = line.number();
-    let packet = line.bytes();
+    let (at, packet) = (line.number(), line.bytes());
     if let Err(fault) = read_name(packet.as_slice(), at, pointers) {
         line.says(&("", fault.words(), Some(fault.place())));
     }

@@ -1,7 +1,7 @@
 //! Domain names and scopes, made label by label.
 
-use nb_examples_words::called;
 use nb_examples_words::line::Line;
+use nb_examples_words::{called, said};
 use nb_names::{DomainName, Name, Scope, domain_text};
 
 /// The domain name of all labels that are left.
@@ -31,15 +31,11 @@ pub fn scope_of(line: &mut Line<'_>) -> Scope {
 /// `labels LABEL ..`: how many labels the domain name has, whether it is empty, in how many bytes
 /// it is spelled, each label by its place, and what stands at the place after the last.
 pub fn labels(line: &mut Line<'_>) {
-    let domain = domain_of(line);
-    let counts = called!(
-        line,
-        (domain.len(), domain.is_empty(), domain.spelled_len())
-    );
+    let name = domain_of(line);
+    let counts = called!(line, (name.len(), name.is_empty(), name.spelled_len()));
     line.says(&counts);
-    for place in 0..=domain.len() {
-        let label = called!(line, domain.label(place));
-        line.says(&label);
+    for place in 0..=name.len() {
+        said!(line, says, name.label(place));
     }
 }
 
@@ -49,10 +45,8 @@ pub fn pushed(line: &mut Line<'_>) {
     let mut domain = DomainName::root();
     for word in line.rest().split_whitespace() {
         let label = line.bytes_of(word);
-        let answer = called!(line, domain.push(label.as_slice()));
-        line.answers(&answer);
-        let length = called!(line, domain.spelled_len());
-        line.says(&length);
+        said!(line, answers, domain.push(label.as_slice()));
+        said!(line, says, domain.spelled_len());
     }
 }
 
@@ -61,11 +55,9 @@ pub fn pushed_to_scope(line: &mut Line<'_>) {
     let mut scope = Scope::empty();
     for word in line.rest().split_whitespace() {
         let label = line.bytes_of(word);
-        let answer = called!(line, scope.push(label.as_slice()));
-        line.answers(&answer);
+        said!(line, answers, scope.push(label.as_slice()));
         let name = called!(line, Name::new([b' '; 16], scope.copied()));
-        let length = called!(line, name.scope().as_domain().spelled_len());
-        line.says(&length);
+        said!(line, says, name.scope().as_domain().spelled_len());
     }
 }
 
@@ -73,13 +65,11 @@ pub fn pushed_to_scope(line: &mut Line<'_>) {
 /// they are none's.
 pub fn from_domain(line: &mut Line<'_>) {
     let domain = domain_of(line);
-    let name = called!(line, Name::from_domain(&domain));
-    line.says(&name);
+    said!(line, says, Name::from_domain(&domain));
 }
 
 /// `domain_text LABEL ..`: the text of the domain name of these labels.
 pub fn written(line: &mut Line<'_>) {
     let domain = domain_of(line);
-    let text = called!(line, domain_text(line.alloc(), &domain));
-    line.tells(&text);
+    said!(line, tells, domain_text(line.alloc(), &domain));
 }

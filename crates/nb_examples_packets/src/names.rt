@@ -1,8 +1,8 @@
 //! Names: as packets have them, and as text.
 
 use crate::labels::scope_of;
-use nb_examples_words::called;
 use nb_examples_words::line::Line;
+use nb_examples_words::{called, said};
 use nb_names::{Name, NameReader, Pointers, name_from_text, name_text, read_domain, read_name};
 
 /// The next word, as what is done at pointers: `followed` or `refused`.
@@ -15,40 +15,30 @@ pub fn pointers(line: &mut Line<'_>) -> Pointers {
 
 /// `read_domain POINTERS AT BYTES`: the domain name at an offset, and the offset after it.
 pub fn domain_read(line: &mut Line<'_>) {
-    let pointers = pointers(line);
-    let at = line.number();
-    let packet = line.bytes();
-    let read = called!(line, read_domain(packet.as_slice(), at, pointers));
-    line.answers(&read);
+    let (pointers, at, packet) = (pointers(line), line.number(), line.bytes());
+    said!(line, answers, read_domain(packet.as_slice(), at, pointers));
 }
 
 /// `read_name POINTERS AT BYTES`: the NetBIOS name at an offset, and the offset after it.
 pub fn name_read(line: &mut Line<'_>) {
-    let pointers = pointers(line);
-    let at = line.number();
-    let packet = line.bytes();
-    let read = called!(line, read_name(packet.as_slice(), at, pointers));
-    line.answers(&read);
+    let (pointers, at, packet) = (pointers(line), line.number(), line.bytes());
+    said!(line, answers, read_name(packet.as_slice(), at, pointers));
 }
 
 /// `reader POINTERS AT ROOM BYTES`: as `read_domain`, by a reader with room for the ends of so many
 /// offsets; and what it says of the name where that is judged alone: then its spelling, if it is
 /// lent from the packet, and the name once more.
 pub fn by_reader(line: &mut Line<'_>) {
-    let pointers = pointers(line);
-    let at = line.number();
-    let mut room = ends_room(line);
-    let packet = line.bytes();
+    let (pointers, at) = (pointers(line), line.number());
+    let (mut room, packet) = (ends_room(line), line.bytes());
     let reader = NameReader::of(packet.as_slice(), room.as_mut_slice());
-    let read = called!(line, reader.read_domain(at, pointers));
-    line.answers(&read);
+    said!(line, answers, reader.read_domain(at, pointers));
     let judged = called!(line, reader.skip_domain(at, pointers));
     line.answers(&judged);
     if let Ok(seen) = judged {
         let lent = called!(line, reader.lent_at(at, pointers, &seen));
         line.says(&lent.map(|name| name.spelling()));
-        let domain = called!(line, reader.domain_at(at, pointers, &seen));
-        line.says(&domain);
+        said!(line, says, reader.domain_at(at, pointers, &seen));
     }
 }
 
@@ -64,31 +54,23 @@ fn ends_room(line: &mut Line<'_>) -> Vec<u16> {
 
 /// `from_text TEXT`: the name that the text stands for, which may have spaces.
 pub fn of_text(line: &mut Line<'_>) {
-    let text = line.rest();
-    say_name_of(line, text);
+    said!(line, answers, name_from_text(line.rest()));
 }
 
 /// `from_bytes BYTES`: as `from_text`, of the text whose UTF-8 these bytes are.
 pub fn of_bytes(line: &mut Line<'_>) {
     let bytes = line.bytes();
-    match std::str::from_utf8(bytes.as_slice()) {
-        Ok(text) => say_name_of(line, text),
-        Err(_) => line.bad_words(),
-    }
-}
-
-/// Says the name of a text.
-fn say_name_of(line: &mut Line<'_>, text: &str) {
-    let name = called!(line, name_from_text(text));
-    line.answers(&name);
+    let Ok(text) = std::str::from_utf8(bytes.as_slice()) else {
+        return line.bad_words();
+    };
+    said!(line, answers, name_from_text(text));
 }
 
 /// `name_text BYTES LABEL ..`: the text of a name of sixteen bytes, in the scope of these labels.
 pub fn written(line: &mut Line<'_>) {
     let bytes = sixteen_bytes(line);
     let name = Name::new(bytes, scope_of(line));
-    let text = called!(line, name_text(line.alloc(), &name));
-    line.tells(&text);
+    said!(line, tells, name_text(line.alloc(), &name));
 }
 
 /// The next word, as the sixteen bytes of a name.

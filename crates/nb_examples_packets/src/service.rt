@@ -1,11 +1,9 @@
 //! Packets of port 137: read, and made of the items of others.
 
 use nb_examples_words::line::Line;
-use nb_examples_words::{asked, called};
+use nb_examples_words::{asked, called, said};
 use nb_names::DomainName;
-use nb_service::{
-    Packet, PushFault, Question, Rdata, Record, Section, ServiceFault, decode, encode,
-};
+use nb_service::{Packet, Question, Rdata, Record, Section, ServiceFault, decode, encode};
 
 /// The most items of a packet that are said.
 const MOST_ITEMS: usize = 16;
@@ -26,9 +24,9 @@ pub fn decoded(line: &mut Line<'_>) {
 
 /// Says a packet, or its identifier, its flag word and how many items its lists have.
 fn say_packet(line: &mut Line<'_>, packet: &Packet<'_>) {
-    let questions = packet.questions().as_slice().len();
-    let additional = packet.additional().as_slice().len();
-    if questions <= MOST_ITEMS && additional <= MOST_ITEMS {
+    let questions = packet.questions().as_slice();
+    let additional = packet.additional().as_slice();
+    if questions.len().max(additional.len()) <= MOST_ITEMS {
         return line.says(packet);
     }
     line.says(&(packet.id(), packet.word()));
@@ -60,15 +58,15 @@ pub fn front<'a>(line: &mut Line<'_>, bytes: &'a [u8]) -> Packet<'a> {
 /// were added to it, one after another; or the faults of those that aren't, and how many questions,
 /// answers, authorities and additional records there are then.
 pub fn pushed(line: &mut Line<'_>) {
-    let first = line.bytes();
-    let second = line.bytes();
+    let (first, second) = (line.bytes(), line.bytes());
     say_pushed(line, first.as_slice(), second.as_slice());
 }
 
 /// Says the packet at the front of some bytes, with the items of a second one.
 fn say_pushed<'a>(line: &mut Line<'_>, first: &'a [u8], second: &'a [u8]) {
     let mut packet = front(line, first);
-    match push_front(line, &mut packet, second) {
+    let added = front(line, second);
+    match push_all(line, &mut packet, &added) {
         true => say_encoded(line, &packet),
         false => say_counts(line, &packet),
     }
@@ -76,14 +74,7 @@ fn say_pushed<'a>(line: &mut Line<'_>, first: &'a [u8], second: &'a [u8]) {
 
 /// Says a packet's bytes, made between marks.
 pub fn say_encoded(line: &mut Line<'_>, packet: &Packet<'_>) {
-    let bytes = called!(line, encode(line.alloc(), packet));
-    line.gives(&bytes);
-}
-
-/// Adds the items of the packet at the front of some bytes: whether all were added.
-fn push_front<'a>(line: &mut Line<'_>, packet: &mut Packet<'a>, bytes: &'a [u8]) -> bool {
-    let added = front(line, bytes);
-    push_all(line, packet, &added)
+    said!(line, gives, encode(line.alloc(), packet));
 }
 
 /// Adds the questions and the records of a packet to another: whether all were added.
@@ -105,16 +96,7 @@ fn push_question(line: &mut Line<'_>, packet: &mut Packet<'_>, question: &Questi
         packet.push_question(copy_of_question(question)),
         encode(line.alloc(), packet).ok()
     );
-    is_pushed(line, answer)
-}
-
-/// Whether an item was added; where it wasn't, the fault is said.
-fn is_pushed(line: &mut Line<'_>, answer: Result<(), PushFault>) -> bool {
-    if let Err(fault) = answer {
-        line.refuses(&fault);
-        return false;
-    }
-    true
+    line.is_done(&answer)
 }
 
 /// The same question.
@@ -157,7 +139,7 @@ fn push_record<'a>(
         packet.push(section, copy_of_record(record)),
         encode(line.alloc(), packet).ok()
     );
-    is_pushed(line, answer)
+    line.is_done(&answer)
 }
 
 /// The same record; the name of a record of bytes that can't be so is the root, which shows.
@@ -176,7 +158,6 @@ pub fn copy_of_record<'a>(record: &Record<'a>) -> Record<'a> {
 /// `word WORD`: the opcode, the result code and the flags of a packet's flag word.
 pub fn word(line: &mut Line<'_>) {
     let word = line.hex_16();
-    let packet = called!(line, Packet::new(line.alloc(), 0, word));
-    let parts = called!(line, (packet.opcode(), packet.rcode(), packet.nm_flags()));
-    line.says(&parts);
+    let made = called!(line, Packet::new(line.alloc(), 0, word));
+    said!(line, says, (made.opcode(), made.rcode(), made.nm_flags()));
 }

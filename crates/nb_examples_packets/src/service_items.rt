@@ -2,8 +2,8 @@
 ghost use Rattle.std.specs.Prelude.{◌≡◌};
 ghost use Rattle.nb_service.specs.Items.{PacketItem, Sees, section_of};
 
-use nb_examples_words::called;
 use nb_examples_words::line::Line;
+use nb_examples_words::{called, given};
 use nb_names::NameReader;
 use nb_service::limits::{HEADER_LENGTH, MAX_ENTRIES};
 use nb_service::{Header, Section, Seen, read_header, see_item};
@@ -13,20 +13,12 @@ use nb_service::{Header, Section, Seen, read_header, see_item};
 /// where it ends; then the fault of the next one, or that there is no further one.
 pub fn items(line: &mut Line<'_>) {
     let bytes = line.bytes();
-    let answer = called!(line, read_header(bytes.as_slice()));
-    match answer {
-        Ok(header) => say_items(line, bytes.as_slice(), &header),
-        Err(fault) => line.refuses(&fault),
-    }
-}
-
-/// Says the items of a packet of this header.
-fn say_items(line: &mut Line<'_>, bytes: &[u8], header: &Header) {
+    let header = given!(line, read_header(bytes.as_slice()));
     line.says(&(header.id, header.word));
-    let names = NameReader::of(bytes, &mut []);
+    let names = NameReader::of(bytes.as_slice(), &mut []);
     let mut at = HEADER_LENGTH;
     for number in 0..=4 * MAX_ENTRIES {
-        match next_item(line, &names, header, number, at) {
+        match next_item(line, &names, &header, number, at) {
             Some(next) => at = next,
             None => return,
         }

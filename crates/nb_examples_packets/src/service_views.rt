@@ -1,8 +1,8 @@
 //! What packets of port 137 and their records say, without a packet that is made.
 
 use crate::service::front;
-use nb_examples_words::called;
 use nb_examples_words::line::Line;
+use nb_examples_words::{called, given, said};
 use nb_names::NameReader;
 use nb_service::{
     AddressEntries, NodeStatus, Record, ont, opcode, outline, rcode, see_question, see_record,
@@ -22,8 +22,7 @@ pub fn view(line: &mut Line<'_>) {
 
 /// Says what the RDATA of a record says.
 fn say_view(line: &mut Line<'_>, record: &Record<'_>) {
-    let views = called!(line, (record.address_entries(), record.node_status()));
-    match views {
+    match called!(line, (record.address_entries(), record.node_status())) {
         (Some(entries), None) => say_entries(line, &entries),
         (None, Some(status)) => say_status(line, &status),
         _ => line.say("none"),
@@ -38,8 +37,7 @@ fn say_entries(line: &mut Line<'_>, entries: &AddressEntries<'_>) {
         let entry = called!(line, entries.get(place));
         line.says(&entry);
         if let Some(entry) = entry {
-            let parts = called!(line, (ont(entry.flags), entry.to_bytes()));
-            line.says(&parts);
+            said!(line, says, (ont(entry.flags), entry.to_bytes()));
         }
     }
 }
@@ -53,49 +51,36 @@ fn say_status(line: &mut Line<'_>, status: &NodeStatus<'_>) {
         let name = called!(line, status.get(place));
         line.says(&name);
         if let Some(name) = name {
-            let flags = called!(line, (ont(name.flags), name.node_flags()));
-            line.says(&flags);
+            said!(line, says, (ont(name.flags), name.node_flags()));
         }
     }
-    let rest = called!(line, (status.statistics(), status.unit_id()));
-    line.says(&rest);
+    said!(line, says, (status.statistics(), status.unit_id()));
 }
 
 /// `outline BYTES`: the header of the packet at the front and how many bytes the packet takes up,
 /// and the opcode and the result code of its flag word.
 pub fn outlined(line: &mut Line<'_>) {
     let bytes = line.bytes();
-    let answer = called!(line, outline(&NameReader::of(bytes.as_slice(), &mut [])));
-    line.answers(&answer);
-    if let Ok((header, _)) = answer {
-        line.says(&(opcode(header.word), rcode(header.word)));
-    }
+    let names = NameReader::of(bytes.as_slice(), &mut []);
+    let (header, used) = given!(line, outline(&names));
+    line.says(&(header, used));
+    line.says(&(opcode(header.word), rcode(header.word)));
 }
 
 /// `question_at AT BYTES`: the question at an offset, and the offset after it.
 pub fn question_at(line: &mut Line<'_>) {
-    let at = line.number();
-    let bytes = line.bytes();
+    let (at, bytes) = (line.number(), line.bytes());
     let names = NameReader::of(bytes.as_slice(), &mut []);
-    match called!(line, see_question(&names, at)) {
-        Ok(seen) => {
-            let question = called!(line, seen.question(&names));
-            line.says(&(question, seen.fields.extent.next));
-        }
-        Err(fault) => line.refuses(&fault),
-    }
+    let seen = given!(line, see_question(&names, at));
+    let question = called!(line, seen.question(&names));
+    line.says(&(question, seen.fields.extent.next));
 }
 
 /// `record_at AT BYTES`: the record at an offset, and the offset after it.
 pub fn record_at(line: &mut Line<'_>) {
-    let at = line.number();
-    let bytes = line.bytes();
+    let (at, bytes) = (line.number(), line.bytes());
     let names = NameReader::of(bytes.as_slice(), &mut []);
-    match called!(line, see_record(&names, at)) {
-        Ok(seen) => {
-            let record = called!(line, seen.record(&names));
-            line.says(&(record, seen.fields.extent.next));
-        }
-        Err(fault) => line.refuses(&fault),
-    }
+    let seen = given!(line, see_record(&names, at));
+    let record = called!(line, seen.record(&names));
+    line.says(&(record, seen.fields.extent.next));
 }

@@ -1,9 +1,9 @@
 //! Packets of port 139: parsed, and read from a device.
 
 use crate::streams::lacks;
-use nb_examples_words::called;
 use nb_examples_words::devices::{Source, WILLING};
 use nb_examples_words::line::Line;
+use nb_examples_words::{called, said};
 use nb_session::{
     Kind, MessageData, Packet, Parsed, ReadFault, Room, Stream, encode, front_header, parse,
     parse_lent, read_packet,
@@ -23,13 +23,10 @@ pub fn parsed(line: &mut Line<'_>) {
 
 /// `same BYTES BYTES`: whether the same stands at the front of both, with names in place and lent.
 pub fn same(line: &mut Line<'_>) {
-    let first = line.bytes();
-    let second = line.bytes();
+    let (first, second) = (line.bytes(), line.bytes());
     let (first, second) = (first.as_slice(), second.as_slice());
-    line.says(&(
-        parse(first) == parse(second),
-        parse_lent(first) == parse_lent(second),
-    ));
+    let is_same_lent = parse_lent(first) == parse_lent(second);
+    line.says(&(parse(first) == parse(second), is_same_lent));
 }
 
 /// `debug BYTES`: what stands at the front, with names lent.
@@ -60,22 +57,15 @@ pub fn fronts(line: &mut Line<'_>) {
 pub fn encoded_again(line: &mut Line<'_>) {
     let bytes = line.bytes();
     match parse(bytes.as_slice()) {
-        Parsed::Whole(packet, _) => say_encoded(line, &packet),
+        Parsed::Whole(packet, _) => said!(line, gives, encode(line.alloc(), &packet)),
         _ => line.bad_words(),
     }
-}
-
-/// Says a packet's bytes, made between marks.
-fn say_encoded(line: &mut Line<'_>, packet: &Packet<'_>) {
-    let bytes = called!(line, encode(line.alloc(), packet));
-    line.gives(&bytes);
 }
 
 /// `kind TYPE LENGTH`: the kind with this type, its type again, and whether its body may have so
 /// many bytes; or `none`.
 pub fn kind(line: &mut Line<'_>) {
-    let packet_type = line.hex_8();
-    let length = line.number();
+    let (packet_type, length) = (line.hex_8(), line.number());
     match Kind::of_type(packet_type) {
         Some(kind) => line.says(&(kind, kind.packet_type(), kind.may_have(length))),
         None => line.say("none"),
@@ -109,8 +99,7 @@ pub fn header(line: &mut Line<'_>) {
 /// `read MOST INTERRUPTS FAILING BYTES`: the packets that are read from a device, up to its end or
 /// the first fault, and how many bytes are left then. The room is then used once more.
 pub fn read(line: &mut Line<'_>) {
-    let conduct = line.conduct();
-    let bytes = line.bytes();
+    let (conduct, bytes) = (line.conduct(), line.bytes());
     let mut source = Source::new(bytes.as_slice(), conduct);
     let mut room = Room::new(line.alloc());
     for _ in 0..=bytes.len() {

@@ -3,7 +3,7 @@
 use nb_examples_words::asked;
 use nb_examples_words::line::Line;
 use nb_session::limits::HEADER_LENGTH;
-use nb_session::{FeedFault, Next, SessionFault, Stream};
+use nb_session::{Next, SessionFault, Stream};
 
 /// `stream PIECE ..`: what a stream answers after each piece that it is fed, up to what it needs or
 /// to its fault; the first piece alone isn't fed between marks.
@@ -12,9 +12,9 @@ pub fn streamed(line: &mut Line<'_>) {
     for word in line.rest().split_whitespace() {
         let piece = line.bytes_of(word);
         match line.is_silent() {
-            true => say_fed(line, stream.feed(piece.as_slice())),
-            false => feed(line, &mut stream, piece.as_slice()),
-        }
+            true => line.is_done(&stream.feed(piece.as_slice())),
+            false => is_fed(line, &mut stream, piece.as_slice()),
+        };
         say_packets(line, &mut stream, piece.len(), true);
         line.says(&stream.next());
     }
@@ -26,7 +26,7 @@ pub fn cut(line: &mut Line<'_>) {
     let mut stream = Stream::new(line.alloc());
     for word in line.rest().split_whitespace() {
         let piece = line.bytes_of(word);
-        feed(line, &mut stream, piece.as_slice());
+        is_fed(line, &mut stream, piece.as_slice());
         say_packets(line, &mut stream, piece.len(), false);
     }
     line.says(&stream.next());
@@ -51,7 +51,7 @@ fn most_kept(line: &mut Line<'_>, stream: &mut Stream, pieces: &str) -> usize {
     let mut most = 0;
     for word in pieces.split_whitespace() {
         let piece = line.bytes_of(word);
-        say_fed(line, stream.feed(piece.as_slice()));
+        line.is_done(&stream.feed(piece.as_slice()));
         most = stream.kept().max(most);
         drain(stream, piece.len());
     }
@@ -74,7 +74,7 @@ pub fn streamed_bytewise(line: &mut Line<'_>) {
     let mut stream = Stream::new(line.alloc());
     let mut before = HEADER_LENGTH;
     for byte in bytes.as_slice() {
-        feed(line, &mut stream, &[*byte]);
+        is_fed(line, &mut stream, &[*byte]);
         say_packets(line, &mut stream, 1, true);
         let needed = lacks(&mut stream).unwrap_or(usize::MAX);
         if needed.saturating_add(1) != before {
@@ -86,16 +86,9 @@ pub fn streamed_bytewise(line: &mut Line<'_>) {
 
 /// Feeds a piece to a stream that has no whole packet, between marks, and once more where memory
 /// ran out: what comes next in the stream has to be the same then.
-fn feed(line: &mut Line<'_>, stream: &mut Stream, piece: &[u8]) {
+fn is_fed(line: &mut Line<'_>, stream: &mut Stream, piece: &[u8]) -> bool {
     let answer = asked!(line, stream.feed(piece), lacks(stream));
-    say_fed(line, answer);
-}
-
-/// Says why a piece wasn't taken, where it wasn't.
-fn say_fed(line: &mut Line<'_>, answer: Result<(), FeedFault>) {
-    if let Err(fault) = answer {
-        line.refuses(&fault);
-    }
+    line.is_done(&answer)
 }
 
 /// How many bytes a stream lacks that has no whole packet, or how it failed.

@@ -1,11 +1,9 @@
 //! Values of nb_names: bytes, lists, copies and spellings; and texts to which something is added.
 
 use crate::labels::domain_of;
-use nb_examples_words::called;
 use nb_examples_words::line::Line;
-use nb_names::{
-    LentName, Name, push_domain, push_lent_name, push_name, read_lent_name, write_domain,
-};
+use nb_examples_words::{called, given, said};
+use nb_names::{Name, push_domain, push_lent_name, push_name, read_lent_name, write_domain};
 use nb_streams::lines::split_line;
 use nb_streams::{
     Bytes, Items, NoMemory, push_address, push_data, push_decimal, push_digits, push_word_digits,
@@ -14,15 +12,13 @@ use nb_streams::{
 /// `copy_bytes BYTES`: a copy of the bytes.
 pub fn copied_bytes(line: &mut Line<'_>) {
     let bytes = line.bytes();
-    let copy = called!(line, Bytes::copy(line.alloc(), bytes.as_slice()));
-    line.gives(&copy);
+    said!(line, gives, Bytes::copy(line.alloc(), bytes.as_slice()));
 }
 
 /// `spelling NAME`: the bytes in which a name is written.
 pub fn spelled(line: &mut Line<'_>) {
     let domain = line.name().to_domain();
-    let spelling = called!(line, write_domain(line.alloc(), &domain));
-    line.gives(&spelling);
+    said!(line, gives, write_domain(line.alloc(), &domain));
 }
 
 /// `bytes BYTES BYTES`: whether both are equal, the first, and the second as they are given back.
@@ -68,28 +64,19 @@ pub fn copied_name(line: &mut Line<'_>) {
 /// `split_line BYTES`: the first line of a text, and what follows its line feed.
 pub fn split(line: &mut Line<'_>) {
     let bytes = line.bytes();
-    let parts = called!(line, split_line(bytes.as_slice()));
-    line.says(&parts);
+    said!(line, says, split_line(bytes.as_slice()));
 }
 
 /// `lent AT BYTES`: the name at an offset, lent from the bytes, and the offset after it; the
 /// spelling of its scope, whether it is the name that is made of it, and its text.
 pub fn lent(line: &mut Line<'_>) {
-    let at = line.number();
-    let bytes = line.bytes();
-    let read = called!(line, read_lent_name(bytes.as_slice(), at));
-    line.answers(&read);
-    if let Ok((name, _)) = read {
-        say_lent(line, &name);
-    }
-}
-
-/// Says what a name that is lent has, and its text.
-fn say_lent(line: &mut Line<'_>, name: &LentName<'_>) {
+    let (at, bytes) = (line.number(), line.bytes());
+    let (name, after) = given!(line, read_lent_name(bytes.as_slice(), at));
+    line.says(&(&name, after));
     let made = name.to_name();
     line.says(&(name.scope_spelling(), name.is(&made.lent())));
     let mut text = String::new(line.alloc());
-    if push_lent_name(&mut text, name).is_err() {
+    if push_lent_name(&mut text, &name).is_err() {
         line.no_memory();
     }
     line.then(text.as_str());
@@ -99,8 +86,7 @@ fn say_lent(line: &mut Line<'_>, name: &LentName<'_>) {
 /// `name`, or of the `domain` of labels, an `address`, the digits of bytes (`digits`) or of data
 /// (`data`), a number (`number`) or the digits of one of 16 bits (`word`).
 pub fn added(line: &mut Line<'_>) {
-    let what = line.word();
-    let front = line.word();
+    let (what, front) = (line.word(), line.word());
     let mut text = String::new(line.alloc());
     if text.push_str(front).is_err() {
         line.no_memory();
@@ -115,18 +101,12 @@ pub fn added(line: &mut Line<'_>) {
 /// Adds to a text what the next word stands for.
 fn add(line: &mut Line<'_>, what: &str, text: &mut String) -> Result<(), NoMemory> {
     match what {
-        "name" => {
-            let name = line.name();
-            called!(line, push_name(text, &name))
-        }
+        "name" => called!(line, push_name(text, &line.name())),
         "domain" => {
             let domain = domain_of(line);
             called!(line, push_domain(text, &domain.lent()))
         }
-        "address" => {
-            let address = line.address();
-            called!(line, push_address(address, text))
-        }
+        "address" => called!(line, push_address(line.address(), text)),
         _ => add_number(line, what, text),
     }
 }
@@ -134,14 +114,8 @@ fn add(line: &mut Line<'_>, what: &str, text: &mut String) -> Result<(), NoMemor
 /// Adds to a text the number or the bytes for which the next word stands.
 fn add_number(line: &mut Line<'_>, what: &str, text: &mut String) -> Result<(), NoMemory> {
     match what {
-        "number" => {
-            let number = line.number();
-            called!(line, push_decimal(number, text))
-        }
-        "word" => {
-            let number = line.hex_16();
-            called!(line, push_word_digits(number, text))
-        }
+        "number" => called!(line, push_decimal(line.number(), text)),
+        "word" => called!(line, push_word_digits(line.hex_16(), text)),
         _ => add_bytes(line, what == "digits", text),
     }
 }

@@ -86,11 +86,10 @@ fn run_length(bytes: &[u8], first: u8) -> usize {
 /// Says a run of equal bytes.
 fn say_run(line: &mut Line<'_>, byte: u8, count: usize) {
     if count >= LONG_RUN {
-        line.say_hex_8("", byte);
-        return line.say_with("*", count);
+        return write!(line, "{byte:02x}*{count}");
     }
     for _ in 0..count {
-        line.say_hex_8("", byte);
+        write!(line, "{byte:02x}");
     }
 }
 

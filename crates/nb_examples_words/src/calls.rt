@@ -11,6 +11,27 @@ macro_rules! called {
     }};
 }
 
+/// Says what a call answers that is made between marks, by this function of a line.
+#[macro_export]
+macro_rules! said {
+    ($line:ident, $says:ident, $call:expr) => {{
+        let answer = $crate::called!($line, $call);
+        $line.$says(&answer);
+    }};
+}
+
+/// What a call gives that is made between marks. Where it has a fault, that is said, and the
+/// function ends.
+#[macro_export]
+macro_rules! given {
+    ($line:ident, $call:expr) => {{
+        match $crate::called!($line, $call) {
+            Ok(value) => value,
+            Err(fault) => return $line.refuses(&fault),
+        }
+    }};
+}
+
 /// What a call on an object answers that is made between marks. Where memory ran out in it, it is
 /// made once more; what is read of the object has to be the same in between.
 #[macro_export]

@@ -5,7 +5,7 @@
 //! memory ran out. [`Line::finish`] reports the first fault, whatever was said after it.
 
 use crate::byte_text::bytes_of;
-use crate::devices::Conduct;
+use crate::devices::{Conduct, Sink};
 use crate::fault::ExampleFault;
 use nb_names::{DomainName, Name, Pointers, Scope, name_from_text, read_domain};
 use std::alloc::{AllocError, Global};
@@ -17,6 +17,9 @@ use std::str::FromStr;
 /// For how many bytes the text has room that is made right before a call
 /// (tests/lib/refuse_memory.c).
 const MARK: usize = 50_021;
+
+/// For how many bytes a writer has room, so that writing them wants no memory.
+const ROOM: usize = 150_000;
 
 /// Words that haven't been taken, and what stands between two of them.
 #[derive(Clone, Copy)]
@@ -235,24 +238,13 @@ impl<'a> Line<'a> {
         ends
     }
 
-    /// The next word, as the parts of a key, `10.0.0.5:138/0001`: address, port and identifier.
-    pub fn key_parts(&mut self) -> ([u8; 4], u16, u16) {
-        let word = self.word();
-        let before = self.enter(word, "/");
-        let (ip, port) = self.ends();
-        let id = self.hex_16();
-        self.leave(before);
-        (ip, port, id)
-    }
-
     /// The next word, as how many keys a table may hold, and how many of one address: `8:2`.
     pub fn capacity(&mut self) -> (u32, u32) {
         let word = self.word();
         let before = self.enter(word, ":");
-        let keys = self.number();
-        let per_source = self.number();
+        let capacity = (self.number(), self.number());
         self.leave(before);
-        (keys, per_source)
+        capacity
     }
 
     /// The next word, which is one of two: whether it is the first.
@@ -269,19 +261,26 @@ impl<'a> Line<'a> {
     /// is `600/4` for 600 interrupts before the first, the fifth and each fourth call after it, and
     /// `1023` for 1,023 before each.
     pub fn conduct(&mut self) -> Conduct {
-        let most = self.number();
-        let word = self.word();
+        let (most, word) = (self.number(), self.word());
         let before = self.enter(word, "/");
         let interrupts = self.number();
         let every = if self.is_empty() { 1 } else { self.number() };
         self.leave(before);
-        let failing = self.number();
         Conduct {
             most,
             interrupts,
             every,
-            failing,
+            failing: self.number(),
         }
+    }
+
+    /// A writer that does so.
+    pub fn sink(&mut self, conduct: Conduct) -> Sink {
+        let mut taken = Vec::new(self.alloc);
+        if let Err(AllocError) = taken.reserve(ROOM) {
+            self.no_memory();
+        }
+        Sink::new(taken, conduct)
     }
 
     // ---- What is said.

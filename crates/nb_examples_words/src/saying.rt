@@ -50,6 +50,14 @@ impl Line<'_> {
         self.back_to(before)
     }
 
+    /// Whether a call was done; where it wasn't, the text of its fault is said.
+    pub fn is_done<E: Display>(&mut self, answer: &Result<(), E>) -> bool {
+        if let Err(fault) = answer {
+            self.refuses(fault);
+        }
+        answer.is_ok()
+    }
+
     /// Says bytes that a call made, as a word, or the text of a fault.
     pub fn gives<E: Display>(&mut self, made: &Result<Bytes, E>) {
         match made {
@@ -70,18 +78,6 @@ impl Line<'_> {
     }
 
     // ---- Parts of answers.
-
-    /// Says a value after a text.
-    pub fn say_with<T: Display + Drop>(&mut self, lead: &str, value: T) {
-        self.say(lead);
-        self.write_fmt(value);
-    }
-
-    /// Says a byte after a text, as two hexadecimal digits.
-    pub fn say_hex_8(&mut self, lead: &str, number: u8) {
-        self.say(lead);
-        write!(self, "{number:02x}");
-    }
 
     /// Says the text of a name after a text.
     pub fn say_name(&mut self, lead: &str, name: &Name) {

@@ -21,21 +21,21 @@ ordinary() {
     done
 
     # Words that mean nothing have no answer, and an answer that differs is printed.
-    printf '%s\n' 'session.parse 0z = more 4' 'session.parse 00 00 = more 3' 'session.pares 00 = more 3' 'table.lode 9:9 9 00 = full' \
-        'session.parse 00' 'session.parse 00 = more 4' 'session.parse 00 = more 3' | ended "$program" >"$room/output"
+    printf '%s\n' 'session.parse 0z = More(4)' 'session.parse 00 00 = More(3)' 'session.pares 00 = More(3)' 'table.lode 9:9 9 00 = full' \
+        'session.parse 00' 'session.parse 00 = More(4)' 'session.parse 00 = More(3)' | ended "$program" >"$room/output"
     [ $? -eq 1 ] && cmp -s "$room/output" - <<'END'
-session.parse 0z = more 4
+session.parse 0z = More(4)
     bad words
-session.parse 00 00 = more 3
+session.parse 00 00 = More(3)
     bad words
-session.pares 00 = more 3
+session.pares 00 = More(3)
     no such call
 table.lode 9:9 9 00 = full
     no such call
 session.parse 00
     no example
-session.parse 00 = more 4
-    answered: more 3
+session.parse 00 = More(4)
+    answered: More(3)
 7 examples, 6 wrong
 END
     count $? 'wrong examples are printed'

@@ -18,8 +18,19 @@ from model.names import LONGEST_SCOPE, Name, Refused, name_of, name_of_text, rea
 SMALL = b'\x00\x00\x00\x01\x01\x01\x02\x02\xc0\xc0\x3f\x40\x80\xc1\xffa'
 
 
+
+def domain_answer(labels):
+    """A domain name as `Debug` prints it."""
+    return f'DomainName {{ bytes: [{word(spelled(labels))}] }}'
+
+
+def name_answer(name):
+    """A name as `Debug` prints it."""
+    return f'Name {{ bytes: [{word(name.bytes)}], scope: Scope {{ domain: {domain_answer(name.scope)} }} }}'
+
+
 # What calls answer of the labels that they read.
-READERS = {'read_domain': lambda labels: word(spelled(labels)), 'read_name': lambda labels: text_of(name_of(labels))}
+READERS = {'read_domain': domain_answer, 'read_name': lambda labels: name_answer(name_of(labels))}
 
 
 def answer(read, *words):
@@ -31,9 +42,8 @@ def answer(read, *words):
 
 
 def text_answer(text):
-    """The sixteen bytes and the scope of a text's name."""
-    name = name_of_text(text)
-    return f'{word(name.bytes)} {word(spelled(name.scope))}'
+    """The name of a text."""
+    return name_answer(name_of_text(text))
 
 
 def text_example(text):
@@ -45,7 +55,7 @@ def text_example(text):
 def packet_answer(call, packet, at, followed):
     """What is read at an offset of a packet, and the offset after it."""
     labels, after = read_labels(packet, at, pointers=followed)
-    return f'{READERS[call](labels)}, next {after}'
+    return f'({READERS[call](labels)}, {after})'
 
 
 def packet_example(call, packet, at, followed=True):

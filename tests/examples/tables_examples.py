@@ -54,8 +54,9 @@ def whole(fragments):
 
 
 def handed(before, after):
-    """What a table hands over that held the one list and then holds the other."""
-    return ' and '.join(said for key, said in whole(after).items() if key not in whole(before)) or 'nothing'
+    """How many datagrams a table hands over that held the one list and then holds the other, and each."""
+    said = [said for key, said in whole(after).items() if key not in whole(before)]
+    return '; '.join([str(len(said)), *said])
 
 
 def table_of(fragments):
@@ -83,11 +84,11 @@ def first_said(fragments, place):
 def examples_of(fragments, chance):
     """What is asked of a list."""
     steps = ' '.join(map(worded, fragments))
-    yield f'table.insert 2 {LONGEST} | {steps} = {", ".join(changes(fragments))}'
+    yield f'table.insert 2 {LONGEST} | {steps} = {"; ".join(changes(fragments))}'
     key, place = chance.choice(KEYS), chance.randrange(LONGEST)
     held = table_of(fragments).entries.get(key)
     state, facts = known(held)['state'].title() if held else 'Absent', first_said([it for it in fragments if it.key == key], place)
-    yield f'table.plain {key_text(key)} {place} {steps} = {state}, {facts}, {whole(fragments).get(key, "none")}'
+    yield f'table.plain {key_text(key)} {place} {steps} = ({state}, {facts}); {whole(fragments).get(key, "none")}'
     turned = [it for it in reversed(fragments) for _ in range(2)]
     yield f'table.fits {table(fragments)} | {table(turned)} = (true, Ok(()))'
     fewer, saved = fragments[:-1], word(table_of(fragments).saved())
@@ -116,7 +117,7 @@ def drawn(chance, size):
 def byte_by_byte(data):
     """Each byte of a datagram in a fragment of its own, the last one first, and then all of them once more."""
     fragments = [read_fragment(it) for it in reversed(pieces(1, data, 1))] * 2
-    return f'table.insert 1 65535 | {" ".join(map(worded, fragments))} = {", ".join(changes(fragments))}'
+    return f'table.insert 1 65535 | {" ".join(map(worded, fragments))} = {"; ".join(changes(fragments))}'
 
 
 def main():

@@ -3,8 +3,9 @@
 What a file says once is written out here. `let NAME = BYTES` defines a word of the file: in later lines `{NAME}` is its
 digits, `{NAME@48=c0}` has another byte at place 48, `{NAME:81}` is its first 81 bytes, `{NAME:81..}` those after them, and
 `{NAME/7}` its bytes in pieces of 7, with spaces between. `each 0..82 LINE` is that line for each n from 0 to below 82: `{n}`,
-`{82-n}` and `{4+n}` are numbers, and may be places, lengths and sizes. A brace before a space, a quotation mark or a closing
-brace stands for itself, as in JSON.
+`{82-n}` and `{4+n}` are numbers, and may be places, lengths and sizes. `{Key 10.0.0.5:138/0001}`, `{Name JOE<00>.A}`, and the same
+name as a `{LentName ..}` or a `{DomainName ..}`, which may also be labels as `A.BC`, are what `Debug` prints. A brace before a space,
+a quotation mark or a closing brace stands for itself, as in JSON.
 
 In the words of a call letters in `'` are bytes too; in a capture, `;` in them is a line feed. A fragment for a table is
 `ID:FLAGS:OFFSET:BYTES`, a group fragment of 10.0.0.5:138/ID from JOE<00> to FRED<20>, and may have after it what is otherwise:
@@ -49,8 +50,30 @@ def number(text, n):
     return int(whole or 0) + (n * (-1 if sign == '-' else 1) if of_n else 0)
 
 
+def spelled(labels):
+    """Labels as packets spell them, as a word."""
+    return word(b''.join(bytes([len(it)]) + it.encode() for it in labels) + b'\0')
+
+
+def printed(kind, text):
+    """A key, or a name without escapes, as `Debug` prints it."""
+    if kind == 'Key':
+        address, port, identifier = re.split('[:/]', text)
+        return f'Key {{ ip: [{bytes(map(int, address.split("."))).hex()}], port: {port}, id: {int(identifier, 16)} }}'
+    first, *scope = filter(None, text.split('.'))
+    name = re.fullmatch(r'(\w*)<(\w\w)>', first)
+    sixteen = name and name[1].encode().ljust(15) + bytes.fromhex(name[2])
+    if kind == 'DomainName':
+        letters = sixteen and ''.join(chr(ord('A') + int(digit, 16)) for digit in sixteen.hex())
+        return f'DomainName {{ bytes: [{spelled([letters or first, *scope])}] }}'
+    inner = '[%s]' if kind == 'LentName' else 'Scope { domain: DomainName { bytes: [%s] } }'
+    return f'{kind} {{ bytes: [{word(sixteen)}], scope: {inner % spelled(scope)} }}'
+
+
 def inside(text, words, n):
     """What stands in braces."""
+    if ' ' in text:
+        return printed(*text.split(' '))
     if n is not None and re.fullmatch(r'n|\d+[-+]n', text):
         return str(number(text, n))
     name, changes, length, size = re.fullmatch(r'(\w+)((?:@[^@:/]+)*)(?::([^/]+))?(?:/(.+))?', text).groups()
@@ -126,10 +149,10 @@ def asked(call, words):
 
 
 def example(line):
-    """A line as the program reads it."""
-    question, _, answer = line.partition(' = ')
+    """A line as the program reads it, in whose answer a list of no bytes is empty."""
+    question, _, answer = line.replace('[empty]', '[]').partition(' = ')
     call, _, words = question.partition(' ')
-    return f'{call} {asked(call, words)} = {answer}' if words else line
+    return f'{call} {asked(call, words)} = {answer}' if words else f'{question} = {answer}'
 
 
 def define(line, words):

@@ -1,8 +1,8 @@
 //! A program that calls the crates, as the README at the top has it: payloads of port 138 in, a
 //! datagram out.
 
+use crate::steps::say_found;
 use nb_datagram::{Datagram, Packet, decode};
-use nb_examples_packets::fragments::say_datagram;
 use nb_examples_words::line::Line;
 use nb_streams::Bytes;
 use nb_table::{Change, Table};
@@ -27,21 +27,11 @@ fn reassembled(alloc: Global, payloads: &[Bytes]) -> Option<Datagram> {
 
 /// `reassembled BYTES ..`: the first datagram that the payloads come to, or `none`.
 pub fn first_datagram(line: &mut Line<'_>) {
-    let payloads = rest_payloads(line);
-    match reassembled(line.alloc(), payloads.as_slice()) {
-        Some(datagram) => say_datagram(line, &datagram),
-        None => line.say("none"),
-    }
-}
-
-/// The payloads that all words say that are left.
-fn rest_payloads(line: &mut Line<'_>) -> Vec<Bytes> {
     let mut payloads = Vec::new(line.alloc());
     for word in line.rest().split_whitespace() {
         let payload = Bytes::from_vec(line.bytes_of(word));
-        if payloads.push(payload).is_err() {
-            line.no_memory();
-        }
+        line.push(&mut payloads, payload);
     }
-    payloads
+    let found = reassembled(line.alloc(), payloads.as_slice());
+    say_found(line, &found);
 }

@@ -34,19 +34,12 @@ fn answer_of_tables(line: &mut Line<'_>, call: &str) {
         "drop" => reading::dropped(line),
         "keys" => reading::keys(line),
         "write_saved" => reading::saved_to_device(line),
-        _ => answer_of_two(line, call),
-    }
-}
-
-/// Says what a call of nb_table answers that takes several tables, or none.
-fn answer_of_two(line: &mut Line<'_>, call: &str) {
-    match call {
         "fits" => joining::fits(line),
         "merge" => joining::merged(line),
         "join" => joining::joined(line),
-        "join_all" => joining::joined_all(line),
+        "join_all" => joining::joined_all(line, false),
         "take_in" => joining::taken_in(line),
-        "take_in_all" => joining::taken_in_all(line),
+        "take_in_all" => joining::joined_all(line, true),
         "same_at" => reading::same_at(line),
         "cover" => comparing::compared::<Cover>(line),
         "entry" => comparing::compared::<Entry>(line),

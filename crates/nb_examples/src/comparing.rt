@@ -1,11 +1,12 @@
 //! Covers and entries joined.
 
-use crate::steps::{lent, step_of};
+use crate::steps::step_of;
 use nb_datagram::Fragment;
-use nb_examples_words::asked;
+use nb_examples_packets::fragments::bytes_in;
 use nb_examples_words::line::{Line, cut};
+use nb_examples_words::{asked, called};
 use nb_streams::NoMemory;
-use nb_table::{Cover, Entry, Join, TableFault};
+use nb_table::{Cover, Entry, Join};
 use std::alloc::Global;
 
 /// Values that are made of a fragment. What else is asked of them stands at each function: the kit
@@ -29,25 +30,11 @@ impl Said for Entry {
 
 /// What a step says, made between marks.
 fn made<'a, J: Said + Drop>(line: &mut Line<'a>, step: &'a str) -> Option<J> {
-    let parts = step_of(line, step);
-    let Some(fragment) = lent(line, &parts) else {
-        return None;
-    };
-    line.begin();
-    let value = J::of_fragment(line.alloc(), &fragment).ok();
-    line.end();
+    let bytes = bytes_in(line, step, ",");
+    let fragment = step_of(line, step, bytes.as_slice())?;
+    let value = called!(line, J::of_fragment(line.alloc(), &fragment)).ok();
     if value.is_none() {
-        return made_again(line, &fragment);
-    }
-    value
-}
-
-/// What a fragment says, where memory ran out before.
-fn made_again<J: Said + Drop>(line: &mut Line<'_>, fragment: &Fragment<'_>) -> Option<J> {
-    line.say("memory, ");
-    let value = J::of_fragment(line.alloc(), fragment).ok();
-    if value.is_none() {
-        line.no_memory();
+        line.lacks();
     }
     value
 }
@@ -61,28 +48,17 @@ fn join_step<'a, J: Said + Join + PartialEq + Drop>(
 ) {
     let other: Option<J> = made(line, step);
     if let Some(other) = &other {
-        join(line, value, equal, other);
-        let joined = equal.join(other);
-        note_joined(line, joined);
+        let is_joined = join(line, value, equal, other);
+        if equal.join(other).is_err() || !is_joined {
+            line.no_memory();
+        }
     }
 }
 
-/// Joins a value into another between marks.
-fn join<J: Join + PartialEq>(line: &mut Line<'_>, value: &mut J, equal: &J, other: &J) {
-    asked!(
-        line,
-        Err(TableFault::NoMemory),
-        value.join(other),
-        *value == *equal,
-        note_joined
-    );
-}
-
-/// Notes that a value wasn't joined into another.
-fn note_joined(line: &mut Line<'_>, joined: Result<(), TableFault>) {
-    if joined.is_err() {
-        line.no_memory();
-    }
+/// Joins a value into another between marks: whether it is joined.
+fn join<J: Join + PartialEq>(line: &mut Line<'_>, value: &mut J, equal: &J, other: &J) -> bool {
+    let answer = asked!(line, value.join(other), *value == *equal);
+    answer.is_ok()
 }
 
 /// The join of what steps say.
@@ -105,6 +81,6 @@ pub fn compared<J: Said + Join + PartialEq + Drop>(line: &mut Line<'_>) {
     let one: Option<J> = joined(line, one);
     let other: Option<J> = joined(line, other);
     if let (Some(one), Some(other)) = (one, other) {
-        line.say_with("", one == other);
+        line.says(&(one == other));
     }
 }

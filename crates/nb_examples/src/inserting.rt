@@ -1,9 +1,10 @@
 //! Fragments inserted into tables.
 
-use crate::steps::{lent, reads, say_change, say_fault, step_of, table_of};
+use crate::steps::{reads, say_change, say_fault, step_of, table_of};
 use nb_datagram::Fragment;
-use nb_examples_words::asked;
+use nb_examples_packets::fragments::bytes_in;
 use nb_examples_words::line::Line;
+use nb_examples_words::{asked, called};
 use nb_table::{Change, Handing, Table, TableFault};
 
 /// `insert TABLE | STEP ..`: what the inserts of the steps into the table answer. `insert_over` and
@@ -12,38 +13,20 @@ use nb_table::{Change, Handing, Table, TableFault};
 pub fn inserts(line: &mut Line<'_>, call: &str) {
     let (table, steps) = line.halves(" | ");
     let mut table = table_of(line, table);
-    for (place, step) in steps.split_whitespace().enumerate() {
-        if place > 0 {
-            line.say(", ");
+    for step in steps.split_whitespace() {
+        let bytes = bytes_in(line, step, ",");
+        if let Some(fragment) = step_of(line, step, bytes.as_slice()) {
+            match call {
+                "refusals" => say_refusal(line, &table, &fragment),
+                _ => say_insert(line, call, &mut table, &fragment),
+            }
         }
-        let parts = step_of(line, step);
-        if let Some(fragment) = lent(line, &parts) {
-            say_step(line, call, &mut table, &fragment);
-        }
-    }
-}
-
-/// Says what a call answers of a table and a fragment.
-fn say_step(line: &mut Line<'_>, call: &str, table: &mut Table, fragment: &Fragment<'_>) {
-    match call {
-        "refusals" => say_refusal(line, table, fragment),
-        _ => say_insert(line, call, table, fragment),
     }
 }
 
 /// Says what the insert of a fragment answers, by a call.
 fn say_insert(line: &mut Line<'_>, call: &str, table: &mut Table, fragment: &Fragment<'_>) {
-    asked!(
-        line,
-        Err(TableFault::NoMemory),
-        insert_by(call, table, fragment),
-        reads(line, table),
-        say_inserted
-    );
-}
-
-/// Says what the insert of a fragment answered.
-fn say_inserted(line: &mut Line<'_>, answer: Result<Change, TableFault>) {
+    let answer = asked!(line, insert_by(call, table, fragment), reads(line, table));
     match answer {
         Ok(change) => say_change(line, &change),
         Err(fault) => say_fault(line, fault),
@@ -66,11 +49,8 @@ fn insert_by(call: &str, table: &mut Table, fragment: &Fragment<'_>) -> Result<C
 
 /// Says why the table would refuse a fragment, or `none`.
 fn say_refusal(line: &mut Line<'_>, table: &Table, fragment: &Fragment<'_>) {
-    line.begin();
-    let refusal = table.refusal_of(fragment);
-    line.end();
-    match refusal {
+    match called!(line, table.refusal_of(fragment)) {
         Some(fault) => say_fault(line, fault),
-        None => line.say("none"),
+        None => line.then("none"),
     }
 }

@@ -6,12 +6,10 @@ use nb_datagram::Datagram;
 use nb_examples_packets::datagrams::datagram_of;
 use nb_examples_words::devices::{Conduct, Sink, Source, WILLING};
 use nb_examples_words::line::Line;
+use nb_examples_words::{called, given, said};
 use nb_member::{Member, ReplayFault, push_parts, replay, replay_with};
 use nb_streams::{Counted, NoMemory};
 use std::alloc::Global;
-
-/// For how many bytes a writer has room, so that writing a report wants no memory.
-const REPORT_ROOM: usize = 150_000;
 
 /// Comments are in the report.
 const WITH_COMMENTS: CaptureOptions = CaptureOptions {
@@ -41,10 +39,8 @@ struct Way {
 pub fn replayed(line: &mut Line<'_>, call: &str) {
     let station = line.word();
     let way = way_of(line, call);
-    let capture = line.bytes();
-    if let Some(mut sink) = report_sink(line, way) {
-        replay_into(line, station, way, capture.as_slice(), &mut sink);
-    }
+    let (capture, mut sink) = (line.bytes(), line.sink(way.writing));
+    replay_into(line, station, way, capture.as_slice(), &mut sink);
 }
 
 /// How a call replays.
@@ -73,15 +69,6 @@ fn way_of(line: &mut Line<'_>, call: &str) -> Way {
     way
 }
 
-/// A writer that has room for a report.
-fn report_sink(line: &mut Line<'_>, way: Way) -> Option<Sink> {
-    let sink = Sink::with_room(line.alloc(), REPORT_ROOM, way.writing).ok();
-    if sink.is_none() {
-        line.no_memory();
-    }
-    sink
-}
-
 /// Replays a capture by a new member, and by another one where memory ran out.
 fn replay_into<'a>(
     line: &mut Line<'a>,
@@ -91,9 +78,8 @@ fn replay_into<'a>(
     sink: &mut Sink,
 ) {
     let mut member = member_of(line, station);
-    line.begin();
-    let answer = replay_by(line.alloc(), way, capture, sink, &mut member);
-    line.end();
+    let alloc = line.alloc();
+    let answer = called!(line, replay_by(alloc, way, capture, sink, &mut member));
     match answer {
         Err(ReplayFault::NoMemory) => replay_again(line, station, way, capture, sink.taken()),
         answer => say_replayed(line, way, answer, sink.taken()),
@@ -125,43 +111,27 @@ fn replay_again<'a>(
     capture: &[u8],
     before: &[u8],
 ) {
-    let mut member = member_of(line, station);
-    if let Some(mut sink) = report_sink(line, way) {
-        let answer = replay_by(line.alloc(), way, capture, &mut sink, &mut member);
-        line.again(sink.taken().starts_with(before));
-        say_replayed(line, way, answer, sink.taken());
-    }
+    let (mut member, mut sink) = (member_of(line, station), line.sink(way.writing));
+    let answer = replay_by(line.alloc(), way, capture, &mut sink, &mut member);
+    line.again(sink.taken().starts_with(before));
+    say_replayed(line, way, answer, sink.taken());
 }
 
 /// Says what a replay answered, and what was written.
 fn say_replayed(line: &mut Line<'_>, way: Way, answer: Result<u64, ReplayFault>, written: &[u8]) {
-    match answer {
-        Ok(count) => {
-            line.say_with("", count);
-            line.say(" lines:");
-        }
-        Err(fault) => {
-            line.say_with("", fault);
-            line.say(":");
-        }
-    }
-    if written.is_empty() && !way.is_bytes {
-        return;
-    }
-    line.say(" ");
-    match way.is_bytes {
-        true => line.say_bytes(written),
-        false => line.say_lines(written),
+    line.answers(&answer);
+    if way.is_bytes {
+        line.says(&written);
+    } else if !written.is_empty() {
+        line.then("");
+        line.say_lines(written);
     }
 }
 
 /// `datagram DATAGRAM`: all parts of a datagram as a report has them, after `parts`.
 pub fn parts(line: &mut Line<'_>) {
     if let Some(datagram) = datagram_of(line) {
-        line.begin();
-        let text = parts_text(line.alloc(), &datagram);
-        line.end();
-        line.say_called(text.ok());
+        said!(line, tells, parts_text(line.alloc(), &datagram));
     }
 }
 
@@ -181,11 +151,6 @@ pub fn comment(line: &mut Line<'_>) {
     };
     let comment = line.bytes();
     let mut text = String::new(line.alloc());
-    line.begin();
-    let answer = push_comment(comments, comment.as_slice(), &mut text);
-    line.end();
-    match answer {
-        Ok(()) => line.say_bytes(text.as_bytes()),
-        Err(NoMemory) => line.lacks(),
-    }
+    given!(line, push_comment(comments, comment.as_slice(), &mut text));
+    line.say_bytes(text.as_bytes());
 }

@@ -1,25 +1,22 @@
 //! Steps: fragments in one word, and tables made of them.
 
-use nb_datagram::Fragment;
-use nb_examples_packets::fragments::{OwnedFragment, say_datagram, say_key};
+use nb_datagram::{Datagram, Fragment};
+use nb_examples_packets::fragments::{bytes_in, fragment_in, say_datagram, say_key};
 use nb_examples_words::line::Line;
 use nb_table::{Change, Table, TableFault};
 
-/// The fragment that a step says, `KIND,FLAGS,KEY,OFFSET,SOURCE,DESTINATION,BYTES`.
-pub fn step_of<'a>(line: &mut Line<'a>, step: &'a str) -> OwnedFragment {
-    let before = line.enter(step, ",");
-    let fragment = OwnedFragment::of(line);
-    line.leave(before);
-    fragment
-}
-
-/// The fragment of these parts.
-pub fn lent<'a>(line: &mut Line<'_>, parts: &'a OwnedFragment) -> Option<Fragment<'a>> {
-    let fragment = parts.fragment();
-    if fragment.is_err() {
+/// The fragment that a step says, `KIND,FLAGS,KEY,OFFSET,SOURCE,DESTINATION,BYTES`, which lends its
+/// bytes.
+pub fn step_of<'a, 'b>(
+    line: &mut Line<'a>,
+    step: &'a str,
+    bytes: &'b [u8],
+) -> Option<Fragment<'b>> {
+    let fragment = fragment_in(line, step, ",", bytes).ok();
+    if fragment.is_none() {
         line.bad_words();
     }
-    fragment.ok()
+    fragment
 }
 
 /// The table of all words that are left, `CAPACITY LONGEST STEP ..`. A step that it refuses changes
@@ -29,8 +26,8 @@ pub fn rest_table(line: &mut Line<'_>) -> Table {
     let longest = line.number();
     let mut table = Table::new(line.alloc(), keys, per_source, longest);
     for step in line.rest().split_whitespace() {
-        let parts = step_of(line, step);
-        if let Some(fragment) = lent(line, &parts) {
+        let bytes = bytes_in(line, step, ",");
+        if let Some(fragment) = step_of(line, step, bytes.as_slice()) {
             if let Err(TableFault::NoMemory) = table.insert(&fragment) {
                 line.no_memory();
             }
@@ -57,11 +54,11 @@ pub fn two_tables(line: &mut Line<'_>) -> (Table, Table) {
 /// Says a change: its word, and the datagram where there is one.
 pub fn say_change(line: &mut Line<'_>, change: &Change) {
     match change {
-        Change::Spoilt => line.say("spoilt"),
-        Change::Same => line.say("same"),
-        Change::Grown => line.say("grown"),
+        Change::Spoilt => line.then("spoilt"),
+        Change::Same => line.then("same"),
+        Change::Grown => line.then("grown"),
         Change::Whole(datagram) => {
-            line.say("whole ");
+            line.then("whole ");
             say_datagram(line, datagram);
         }
     }
@@ -69,22 +66,24 @@ pub fn say_change(line: &mut Line<'_>, change: &Change) {
 
 /// Says a fault, with the key where there is one.
 pub fn say_fault(line: &mut Line<'_>, fault: TableFault) {
-    match fault {
-        TableFault::NoMemory => line.no_memory(),
-        TableFault::FullSource(key) | TableFault::Full(key) => {
-            line.say_with("", fault);
-            say_key(line, " ", key);
-        }
-        _ => line.say_with("", fault),
+    line.refuses(&fault);
+    if let TableFault::FullSource(key) | TableFault::Full(key) = fault {
+        say_key(line, " ", key);
+    }
+}
+
+/// Says the datagram that was found, or `none`.
+pub fn say_found(line: &mut Line<'_>, found: &Option<Datagram>) {
+    line.then("");
+    match found {
+        Some(datagram) => say_datagram(line, datagram),
+        None => line.say("none"),
     }
 }
 
 /// Says the bytes that a table is saved as.
 pub fn say_saved(line: &mut Line<'_>, table: &Table) {
-    match table.save() {
-        Ok(bytes) => line.say_bytes(bytes.as_slice()),
-        Err(_) => line.no_memory(),
-    }
+    line.gives(&table.save());
 }
 
 /// All that a table answers, as text: the bytes that it is saved as, how many keys it has, and what
@@ -92,16 +91,14 @@ pub fn say_saved(line: &mut Line<'_>, table: &Table) {
 pub fn reads(line: &mut Line<'_>, table: &Table) -> String {
     let before = line.aside();
     say_saved(line, table);
-    line.say_with(" ", table.len());
+    line.says(&table.len());
     say_keys(line, table);
     line.back_to(before)
 }
 
-/// Says what a table knows of each of its keys: ` KEY STATE RUNS`.
+/// Says what a table knows of each of its keys: its state, and how many runs.
 pub fn say_keys(line: &mut Line<'_>, table: &Table) {
     for key in table.keys() {
-        say_key(line, " ", key);
-        line.say_debug(" ", &table.state(&key));
-        line.say_debug(" ", &table.run_count(&key));
+        line.says(&(key, table.state(&key), table.run_count(&key)));
     }
 }

@@ -14,11 +14,6 @@ pub struct CountingSink {
 }
 
 impl CountingSink {
-    /// A sink to which nothing was reported.
-    pub fn new() -> CountingSink {
-        CountingSink { count: 0 }
-    }
-
     /// Counts a field.
     fn add(&mut self) -> Result<(), NoMemory>
         ensures counted { self.new.count ≡ min (self.old.count + 1) 18446744073709551615 }

@@ -1,52 +1,38 @@
 //! Fragments of datagrams, keys and kinds, as words say them and as they are said.
 
-use nb_datagram::{Datagram, Fragment, Key, Kind, TooLong};
+use nb_datagram::{Datagram, Fragment, Key, Kind, TooLong, kind_name};
 use nb_examples_words::line::Line;
+use nb_examples_words::{called, given, said};
 use nb_names::Name;
 
-/// The parts of a fragment, with data of their own.
-#[derive(Drop)]
-pub struct OwnedFragment {
-    pub kind: Kind,
-    pub flags: u8,
-    pub key: Key,
-    pub offset: u16,
-    pub source: Name,
-    pub destination: Name,
-    pub bytes: Vec<u8>,
+/// The bytes of a fragment that a text says: its last word.
+pub fn bytes_in(line: &mut Line<'_>, text: &str, between: &str) -> Vec<u8> {
+    line.bytes_of(text.split(between).last().unwrap_or(text))
 }
 
-impl OwnedFragment {
-    /// The parts that the next words say: `KIND FLAGS KEY OFFSET SOURCE DESTINATION BYTES`.
-    pub fn of(line: &mut Line<'_>) -> OwnedFragment {
-        OwnedFragment {
-            kind: next_kind(line),
-            flags: line.hex_8(),
-            key: next_key(line),
-            offset: line.number(),
-            source: line.name(),
-            destination: line.name(),
-            bytes: line.bytes(),
-        }
-    }
-
-    /// The fragment of these parts.
-    pub fn fragment(&self) -> Result<Fragment<'_>, TooLong> {
-        Fragment::new(
-            self.kind,
-            self.flags,
-            self.key,
-            self.offset,
-            self.source.copied(),
-            self.destination.copied(),
-            self.bytes.as_slice(),
-        )
-    }
+/// The fragment that a text says, `KIND FLAGS KEY OFFSET SOURCE DESTINATION BYTES`, which lends
+/// these bytes.
+pub fn fragment_in<'a, 'b>(
+    line: &mut Line<'a>,
+    text: &'a str,
+    between: &'a str,
+    bytes: &'b [u8],
+) -> Result<Fragment<'b>, TooLong> {
+    let before = line.enter(text, between);
+    let (kind, flags, key) = (next_kind(line), line.hex_8(), next_key(line));
+    let (offset, source, target) = (line.number(), line.name(), line.name());
+    line.word();
+    line.leave(before);
+    Fragment::new(kind, flags, key, offset, source, target, bytes)
 }
 
 /// The next word, as a key: `10.0.0.5:138/0001`.
 pub fn next_key(line: &mut Line<'_>) -> Key {
-    let (ip, port, id) = line.key_parts();
+    let word = line.word();
+    let before = line.enter(word, "/");
+    let (ip, port) = line.ends();
+    let id = line.hex_16();
+    line.leave(before);
     Key { ip, port, id }
 }
 
@@ -61,20 +47,12 @@ pub fn next_kind(line: &mut Line<'_>) -> Kind {
     Kind::Broadcast
 }
 
-/// The word for a kind.
-pub fn kind_word(kind: Kind) -> &'static str {
-    match kind {
-        Kind::Unique => "unique",
-        Kind::Group => "group",
-        Kind::Broadcast => "broadcast",
-    }
-}
-
 /// Says a key after a text: `10.0.0.5:138/0001`.
 pub fn say_key(line: &mut Line<'_>, lead: &str, key: Key) {
-    line.say_address(lead, key.ip);
-    line.say_with(":", key.port);
-    line.say_hex_16("/", key.id);
+    let [a, b, c, d] = key.ip;
+    let (port, id) = (key.port, key.id);
+    line.say(lead);
+    write!(line, "{a}.{b}.{c}.{d}:{port}/{id:04x}");
 }
 
 /// Says the sender's name, the receiver's and the data.
@@ -88,58 +66,33 @@ fn say_rest(line: &mut Line<'_>, source: &Name, target: &Name, bytes: &[u8]) {
 /// Says a fragment: `KIND FLAGS KEY OFFSET SOURCE DESTINATION BYTES`. Its parts are read between
 /// marks.
 pub fn say_fragment(line: &mut Line<'_>, fragment: &Fragment<'_>) {
-    line.begin();
-    let kind = fragment.kind();
-    let flags = fragment.flags();
-    let key = fragment.key();
-    let offset = fragment.offset();
-    let source = fragment.source();
-    let destination = fragment.destination();
-    let bytes = fragment.bytes();
-    line.end();
-    line.say(kind_word(kind));
-    line.say_hex_8(" ", flags);
+    let (kind, flags) = called!(line, (fragment.kind(), fragment.flags()));
+    let (key, offset) = called!(line, (fragment.key(), fragment.offset()));
+    let (source, target) = called!(line, (fragment.source(), fragment.destination()));
+    let bytes = called!(line, fragment.bytes());
+    line.say(kind_name(kind));
+    write!(line, " {flags:02x}");
     say_key(line, " ", key);
-    line.say_with(" ", offset);
-    say_rest(line, source, destination, bytes);
+    write!(line, " {offset}");
+    say_rest(line, source, target, bytes);
 }
 
 /// Says a datagram: `KIND KEY SOURCE DESTINATION BYTES`. Its parts are read between marks.
 pub fn say_datagram(line: &mut Line<'_>, datagram: &Datagram) {
-    line.begin();
-    let kind = datagram.kind();
-    let key = datagram.key();
-    let source = datagram.source();
-    let destination = datagram.destination();
-    let bytes = datagram.bytes();
-    line.end();
-    line.say(kind_word(kind));
+    let (kind, key) = called!(line, (datagram.kind(), datagram.key()));
+    let (source, target) = called!(line, (datagram.source(), datagram.destination()));
+    let bytes = called!(line, datagram.bytes());
+    line.say(kind_name(kind));
     say_key(line, " ", key);
-    say_rest(line, source, destination, bytes);
+    say_rest(line, source, target, bytes);
 }
 
 /// `parts FRAGMENT`: the parts of a fragment, whether it is the first one, whether more follow, and
 /// the place after its last byte; or why there is no such fragment.
 pub fn parts(line: &mut Line<'_>) {
-    let given = OwnedFragment::of(line);
-    line.begin();
-    let answer = given.fragment();
-    line.end();
-    match answer {
-        Ok(fragment) => say_parts(line, &fragment),
-        Err(fault) => line.say_with("", fault),
-    }
-}
-
-/// Says the parts of a fragment and what follows from them.
-fn say_parts(line: &mut Line<'_>, fragment: &Fragment<'_>) {
-    line.begin();
-    let is_first = fragment.is_first();
-    let has_more = fragment.has_more();
-    let reach = fragment.reach();
-    line.end();
-    say_fragment(line, fragment);
-    line.say_with("; first ", is_first);
-    line.say_with(", more ", has_more);
-    line.say_with(", reach ", reach);
+    let text = line.rest();
+    let bytes = bytes_in(line, text, " ");
+    let made = given!(line, fragment_in(line, text, " ", bytes.as_slice()));
+    say_fragment(line, &made);
+    said!(line, says, (made.is_first(), made.has_more(), made.reach()));
 }

@@ -1,7 +1,8 @@
 //! Domain names and scopes, made label by label.
 
 use nb_examples_words::line::Line;
-use nb_names::{DomainName, LabelFault, Name, Scope, domain_text};
+use nb_examples_words::{called, said};
+use nb_names::{DomainName, Name, Scope, domain_text};
 
 /// The domain name of all labels that are left.
 pub fn domain_of(line: &mut Line<'_>) -> DomainName {
@@ -30,30 +31,11 @@ pub fn scope_of(line: &mut Line<'_>) -> Scope {
 /// `labels LABEL ..`: how many labels the domain name has, whether it is empty, in how many bytes
 /// it is spelled, each label by its place, and what stands at the place after the last.
 pub fn labels(line: &mut Line<'_>) {
-    let domain = domain_of(line);
-    line.begin();
-    let count = domain.len();
-    let is_empty = domain.is_empty();
-    let length = domain.spelled_len();
-    line.end();
-    line.say_with("labels ", count);
-    line.say_with(", empty ", is_empty);
-    line.say_with(", bytes ", length);
-    line.say(":");
-    for place in 0..=count {
-        say_label(line, &domain, place);
-    }
-}
-
-/// Says the label at a place of a domain name.
-fn say_label(line: &mut Line<'_>, domain: &DomainName, place: usize) {
-    line.say(" ");
-    line.begin();
-    let label = domain.label(place);
-    line.end();
-    match label {
-        Some(label) => line.say_bytes(label),
-        None => line.say("none"),
+    let name = domain_of(line);
+    let counts = called!(line, (name.len(), name.is_empty(), name.spelled_len()));
+    line.says(&counts);
+    for place in 0..=name.len() {
+        said!(line, says, name.label(place));
     }
 }
 
@@ -63,11 +45,8 @@ pub fn pushed(line: &mut Line<'_>) {
     let mut domain = DomainName::root();
     for word in line.rest().split_whitespace() {
         let label = line.bytes_of(word);
-        line.begin();
-        let answer = domain.push(label.as_slice());
-        let length = domain.spelled_len();
-        line.end();
-        say_pushed(line, answer, length);
+        said!(line, answers, domain.push(label.as_slice()));
+        said!(line, says, domain.spelled_len());
     }
 }
 
@@ -76,45 +55,21 @@ pub fn pushed_to_scope(line: &mut Line<'_>) {
     let mut scope = Scope::empty();
     for word in line.rest().split_whitespace() {
         let label = line.bytes_of(word);
-        line.begin();
-        let answer = scope.push(label.as_slice());
-        let name = Name::new([b' '; 16], scope.copied());
-        let length = name.scope().as_domain().spelled_len();
-        line.end();
-        say_pushed(line, answer, length);
+        said!(line, answers, scope.push(label.as_slice()));
+        let name = called!(line, Name::new([b' '; 16], scope.copied()));
+        said!(line, says, name.scope().as_domain().spelled_len());
     }
-}
-
-/// Says what was answered to a label, and how many bytes the spelling has then.
-fn say_pushed(line: &mut Line<'_>, answer: Result<(), LabelFault>, length: usize) {
-    if !line.is_silent() {
-        line.say(", ");
-    }
-    match answer {
-        Ok(()) => line.say("added"),
-        Err(fault) => line.say_with("", fault),
-    }
-    line.say_with(" ", length);
 }
 
 /// `from_domain LABEL ..`: the name that has these labels, or the place in their spelling at which
 /// they are none's.
 pub fn from_domain(line: &mut Line<'_>) {
     let domain = domain_of(line);
-    line.begin();
-    let name = Name::from_domain(&domain);
-    line.end();
-    match name {
-        Ok(name) => line.say_name("", &name),
-        Err(fault) => line.say_with("place ", fault.place),
-    }
+    said!(line, says, Name::from_domain(&domain));
 }
 
 /// `domain_text LABEL ..`: the text of the domain name of these labels.
 pub fn written(line: &mut Line<'_>) {
     let domain = domain_of(line);
-    line.begin();
-    let text = domain_text(line.alloc(), &domain);
-    line.end();
-    line.say_called(text.ok());
+    said!(line, tells, domain_text(line.alloc(), &domain));
 }

@@ -13,7 +13,6 @@ mod names;
 mod service;
 mod service_items;
 mod service_making;
-mod service_texts;
 mod service_views;
 mod sessions;
 mod shown;
@@ -45,13 +44,6 @@ fn answer_of_names(line: &mut Line<'_>, call: &str) {
         "name_text" => names::written(line),
         "order" => names::ordered(line),
         "reader" => names::by_reader(line),
-        _ => answer_of_labels(line, call),
-    }
-}
-
-/// Says what a call of nb_names answers that takes labels or data, or has a fault.
-fn answer_of_labels(line: &mut Line<'_>, call: &str) {
-    match call {
         "labels" => labels::labels(line),
         "push" => labels::pushed(line),
         "push_scope" => labels::pushed_to_scope(line),
@@ -59,13 +51,6 @@ fn answer_of_labels(line: &mut Line<'_>, call: &str) {
         "fault" => faults::of_name(line),
         "domain_text" => labels::written(line),
         "data_in" => data::read(line),
-        _ => answer_of_values(line, call),
-    }
-}
-
-/// Says what a call of nb_names answers that takes values or a device, or adds to a text.
-fn answer_of_values(line: &mut Line<'_>, call: &str) {
-    match call {
         "copy" => values::copied_name(line),
         "lent" => values::lent(line),
         "split_line" => values::split(line),
@@ -77,8 +62,8 @@ fn answer_of_values(line: &mut Line<'_>, call: &str) {
         "read_some" => devices::read(line),
         "write" => devices::written(line),
         "added" => values::added(line),
-        "digits" => data::of_text(line, false),
-        "data" => data::of_text(line, true),
+        "digits" => data::of_digits(line),
+        "data" => data::of_text(line),
         _ => line.note(ExampleFault::NoSuchCall),
     }
 }
@@ -95,13 +80,6 @@ fn answer_of_service(line: &mut Line<'_>, call: &str) {
         "outline" => service_views::outlined(line),
         "question_at" => service_views::question_at(line),
         "record_at" => service_views::record_at(line),
-        _ => answer_of_makers(line, call),
-    }
-}
-
-/// Says what a call of nb_service answers that makes something.
-fn answer_of_makers(line: &mut Line<'_>, call: &str) {
-    match call {
         "record" => service_making::record(line),
         "ns" => service_making::name_server(line),
         "response" => service_making::responded(line),
@@ -122,9 +100,9 @@ fn answer_of_session(line: &mut Line<'_>, call: &str) {
         "same" => sessions::same(line),
         "debug" => sessions::debug(line),
         "read" => sessions::read(line),
-        "stream" => streams::streamed(line, true),
+        "stream" => streams::streamed(line),
         "kept" => streams::kept(line),
-        "pieces" => streams::streamed(line, false),
+        "pieces" => streams::cut(line),
         "bytewise" => streams::streamed_bytewise(line),
         "again" => sessions::encoded_again(line),
         "fronts" => sessions::fronts(line),
@@ -137,8 +115,8 @@ fn answer_of_session(line: &mut Line<'_>, call: &str) {
 /// Says what a call of nb_datagram answers.
 fn answer_of_datagram(line: &mut Line<'_>, call: &str) {
     match call {
-        "decode" => datagrams::decoded(line, false),
-        "decode_lent" => datagrams::decoded(line, true),
+        "decode" => datagrams::decoded(line),
+        "decode_lent" => datagrams::decoded_lent(line),
         "front" => datagrams::front(line),
         "fault" => faults::of_datagram(line),
         "parts" => fragments::parts(line),

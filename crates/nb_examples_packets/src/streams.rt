@@ -1,30 +1,35 @@
 //! Streams of packets of port 139, fed in pieces.
 
-use crate::sessions::say_packet;
 use nb_examples_words::asked;
 use nb_examples_words::line::Line;
 use nb_session::limits::HEADER_LENGTH;
-use nb_session::{FeedFault, Next, SessionFault, Stream};
+use nb_session::{Next, SessionFault, Stream};
 
 /// `stream PIECE ..`: what a stream answers after each piece that it is fed, up to what it needs or
-/// to its fault; the first piece alone isn't fed between marks. `pieces PIECE ..`: the bytes of
-/// each packet that it hands out, and what it needs in the end.
-pub fn streamed(line: &mut Line<'_>, has_all: bool) {
+/// to its fault; the first piece alone isn't fed between marks.
+pub fn streamed(line: &mut Line<'_>) {
     let mut stream = Stream::new(line.alloc());
     for word in line.rest().split_whitespace() {
         let piece = line.bytes_of(word);
-        match has_all && line.is_silent() {
-            true => say_fed(line, stream.feed(piece.as_slice())),
-            false => feed(line, &mut stream, piece.as_slice()),
-        }
-        say_packets(line, &mut stream, piece.len(), has_all);
-        if has_all {
-            say_end(line, &mut stream);
-        }
+        match line.is_silent() {
+            true => line.is_done(&stream.feed(piece.as_slice())),
+            false => is_fed(line, &mut stream, piece.as_slice()),
+        };
+        say_packets(line, &mut stream, piece.len(), true);
+        line.says(&stream.next());
     }
-    if !has_all {
-        say_end(line, &mut stream);
+}
+
+/// `pieces PIECE ..`: the bytes of each packet that a stream hands out, and what it needs in the
+/// end.
+pub fn cut(line: &mut Line<'_>) {
+    let mut stream = Stream::new(line.alloc());
+    for word in line.rest().split_whitespace() {
+        let piece = line.bytes_of(word);
+        is_fed(line, &mut stream, piece.as_slice());
+        say_packets(line, &mut stream, piece.len(), false);
     }
+    line.says(&stream.next());
 }
 
 /// `kept TIMES PIECE ..`: feeds these pieces so often, and takes each packet off as it comes: how
@@ -37,9 +42,8 @@ pub fn kept(line: &mut Line<'_>) {
     for _ in 0..times {
         most = most_kept(line, &mut stream, pieces).max(most);
     }
-    line.say_with("kept ", most);
-    line.say(", ");
-    say_end(line, &mut stream);
+    line.says(&most);
+    line.says(&stream.next());
 }
 
 /// How many bytes a stream has in memory at most that is fed these pieces.
@@ -47,7 +51,7 @@ fn most_kept(line: &mut Line<'_>, stream: &mut Stream, pieces: &str) -> usize {
     let mut most = 0;
     for word in pieces.split_whitespace() {
         let piece = line.bytes_of(word);
-        say_fed(line, stream.feed(piece.as_slice()));
+        line.is_done(&stream.feed(piece.as_slice()));
         most = stream.kept().max(most);
         drain(stream, piece.len());
     }
@@ -68,50 +72,23 @@ fn drain(stream: &mut Stream, count: usize) {
 pub fn streamed_bytewise(line: &mut Line<'_>) {
     let bytes = line.bytes();
     let mut stream = Stream::new(line.alloc());
-    let mut needed = HEADER_LENGTH;
+    let mut before = HEADER_LENGTH;
     for byte in bytes.as_slice() {
-        feed(line, &mut stream, &[*byte]);
+        is_fed(line, &mut stream, &[*byte]);
         say_packets(line, &mut stream, 1, true);
-        needed = say_needed(line, &mut stream, needed);
-    }
-}
-
-/// Says what a stream needs, where that isn't one byte less than before; what it needs.
-fn say_needed(line: &mut Line<'_>, stream: &mut Stream, before: usize) -> usize {
-    let needed = lacks(stream).unwrap_or(usize::MAX);
-    if needed.saturating_add(1) != before {
-        say_end(line, stream);
-    }
-    needed
-}
-
-/// Says the packets that a stream has after a piece of so many bytes.
-fn say_packets(line: &mut Line<'_>, stream: &mut Stream, count: usize, has_all: bool) {
-    for _ in 0..=count {
-        if !is_packet(line, stream, has_all) {
-            return;
+        let needed = lacks(&mut stream).unwrap_or(usize::MAX);
+        if needed.saturating_add(1) != before {
+            line.says(&stream.next());
         }
+        before = needed;
     }
 }
 
 /// Feeds a piece to a stream that has no whole packet, between marks, and once more where memory
 /// ran out: what comes next in the stream has to be the same then.
-fn feed(line: &mut Line<'_>, stream: &mut Stream, piece: &[u8]) {
-    asked!(
-        line,
-        Err(FeedFault::NoMemory),
-        stream.feed(piece),
-        lacks(stream),
-        say_fed
-    );
-}
-
-/// Says why a piece wasn't taken, where it wasn't.
-fn say_fed(line: &mut Line<'_>, answer: Result<(), FeedFault>) {
-    if let Err(fault) = answer {
-        line.say_with("fed ", fault);
-        line.say("; ");
-    }
+fn is_fed(line: &mut Line<'_>, stream: &mut Stream, piece: &[u8]) -> bool {
+    let answer = asked!(line, stream.feed(piece), lacks(stream));
+    line.is_done(&answer)
 }
 
 /// How many bytes a stream lacks that has no whole packet, or how it failed.
@@ -123,24 +100,15 @@ pub fn lacks(stream: &mut Stream) -> Result<usize, SessionFault> {
     }
 }
 
-/// Says the packet that comes next in a stream, or its bytes: whether there is one.
-fn is_packet(line: &mut Line<'_>, stream: &mut Stream, has_all: bool) -> bool {
-    let Next::Packet(taken) = stream.next() else {
-        return false;
-    };
-    match has_all {
-        true => say_packet(line, &taken.packet()),
-        false => line.say_bytes(taken.as_slice()),
+/// Says the packets that a stream has after a piece of so many bytes, or their bytes.
+fn say_packets(line: &mut Line<'_>, stream: &mut Stream, count: usize, has_parts: bool) {
+    for _ in 0..=count {
+        let Next::Packet(taken) = stream.next() else {
+            return;
+        };
+        match has_parts {
+            true => line.says(&taken.packet()),
+            false => line.says(&taken.as_slice()),
+        }
     }
-    line.say("; ");
-    true
-}
-
-/// Says what a stream needs, or its fault.
-fn say_end(line: &mut Line<'_>, stream: &mut Stream) {
-    match lacks(stream) {
-        Ok(needed) => line.say_with("more ", needed),
-        Err(fault) => line.say_with("failed ", fault),
-    }
-    line.say("; ");
 }

@@ -86,10 +86,41 @@ fn run_length(bytes: &[u8], first: u8) -> usize {
 /// Says a run of equal bytes.
 fn say_run(line: &mut Line<'_>, byte: u8, count: usize) {
     if count >= LONG_RUN {
-        line.say_hex_8("", byte);
-        return line.say_with("*", count);
+        return write!(line, "{byte:02x}*{count}");
     }
     for _ in 0..count {
-        line.say_hex_8("", byte);
+        write!(line, "{byte:02x}");
     }
+}
+
+/// Says what `Debug` printed, in which a list of bytes stands as a word.
+pub fn say_printed(line: &mut Line<'_>, printed: &str) {
+    for (place, part) in printed.split("[").enumerate() {
+        if place > 0 {
+            line.say("[");
+        }
+        say_listed(line, part);
+    }
+}
+
+/// Says what stands behind an opening bracket, up to the next one.
+fn say_listed(line: &mut Line<'_>, part: &str) {
+    let Some((list, rest)) = part.split_once("]") else {
+        return line.say(part);
+    };
+    let Some(bytes) = listed_bytes(line, list) else {
+        return line.say(part);
+    };
+    say_bytes(line, bytes.as_slice());
+    line.say("]");
+    line.say(rest);
+}
+
+/// The bytes of a list of decimal numbers, if all are bytes.
+fn listed_bytes(line: &mut Line<'_>, list: &str) -> Option<Vec<u8>> {
+    let mut bytes = Vec::new(line.alloc());
+    for number in list.split(", ") {
+        line.push(&mut bytes, number.parse().ok()?);
+    }
+    Some(bytes)
 }

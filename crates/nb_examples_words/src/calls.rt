@@ -1,22 +1,52 @@
-//! Calls on an object, made between marks, and again where memory ran out in them.
+//! Calls between marks, and calls on an object that are made again where memory ran out in them.
 
-/// Makes a call on an object between marks, and says its answer by a function. Where it answers as
-/// the pattern says, because memory ran out in it, it is made once more; what is read of the object
-/// has to be the same in between.
+/// What a call answers that is made between marks.
+#[macro_export]
+macro_rules! called {
+    ($line:ident, $call:expr) => {{
+        $line.begin();
+        let answer = $call;
+        $line.end();
+        answer
+    }};
+}
+
+/// Says what a call answers that is made between marks, by this function of a line.
+#[macro_export]
+macro_rules! said {
+    ($line:ident, $says:ident, $call:expr) => {{
+        let answer = $crate::called!($line, $call);
+        $line.$says(&answer);
+    }};
+}
+
+/// What a call gives that is made between marks. Where it has a fault, that is said, and the
+/// function ends.
+#[macro_export]
+macro_rules! given {
+    ($line:ident, $call:expr) => {{
+        match $crate::called!($line, $call) {
+            Ok(value) => value,
+            Err(fault) => return $line.refuses(&fault),
+        }
+    }};
+}
+
+/// What a call on an object answers that is made between marks. Where memory ran out in it, it is
+/// made once more; what is read of the object has to be the same in between.
 #[macro_export]
 macro_rules! asked {
-    ($line:ident, $lacks:pat, $call:expr, $reads:expr, $says:expr) => {{
+    ($line:ident, $call:expr, $reads:expr) => {{
         let before = $reads;
         $line.begin();
         let answer = $call;
         $line.end();
-        match answer {
-            $lacks => {
-                let after = $reads;
-                $line.again(after == before);
-                $says($line, $call)
-            }
-            answer => $says($line, answer),
+        if $line.lacked(&answer) {
+            let after = $reads;
+            $line.again(after == before);
+            $call
+        } else {
+            answer
         }
     }};
 }

@@ -1,7 +1,6 @@
 //! Devices that do as an example says, slow, interrupted, failing: a reader of some bytes, and a
 //! writer that keeps what it took.
 
-use std::alloc::{AllocError, Global};
 use std::io;
 use std::io::{ErrorKind, Read, Write};
 
@@ -26,20 +25,29 @@ pub const WILLING: Conduct = Conduct {
     failing: 0,
 };
 
-/// The calls of a device.
+/// A device over bytes that it gives, or over those that it took.
 #[derive(Drop)]
-struct Turns {
+pub struct Device<B> {
+    bytes: B,
     conduct: Conduct,
     waiting: u32,
     calls: u64,
 }
 
-impl Turns {
-    /// No call so far.
-    fn new(conduct: Conduct) -> Turns {
-        Turns {
+/// A reader of some bytes.
+pub type Source<'a> = Device<&'a [u8]>;
+
+/// A writer that keeps what it took.
+pub type Sink = Device<Vec<u8>>;
+
+impl<B> Device<B> {
+    /// A device that wasn't called so far.
+    pub fn new(bytes: B, conduct: Conduct) -> Device<B> {
+        let waiting = conduct.interrupts;
+        Device {
+            bytes,
             conduct,
-            waiting: conduct.interrupts,
+            waiting,
             calls: 0,
         }
     }
@@ -61,66 +69,35 @@ impl Turns {
     }
 }
 
-/// A reader of some bytes.
-#[derive(Drop)]
-pub struct Source<'a> {
-    bytes: &'a [u8],
-    turns: Turns,
-}
-
-impl<'a> Source<'a> {
-    /// A reader of these bytes.
-    pub fn new(bytes: &'a [u8], conduct: Conduct) -> Source<'a> {
-        Source {
-            bytes,
-            turns: Turns::new(conduct),
-        }
-    }
-
+impl<'a> Device<&'a [u8]> {
     /// The bytes that haven't been read.
     pub fn left(&self) -> &'a [u8] {
         self.bytes
     }
 }
 
-impl Read for Source<'_> {
+impl Device<Vec<u8>> {
+    /// What was written.
+    pub fn taken(&self) -> &[u8] {
+        self.bytes.as_slice()
+    }
+}
+
+impl Read for Device<&[u8]> {
     fn read(&mut self, buf: &mut [u8]) -> io::Result<usize> {
-        self.turns.turn()?;
-        let most = self.turns.conduct.most;
-        let count = most.min(self.bytes.len()).min(buf.len());
+        self.turn()?;
+        let count = self.conduct.most.min(self.bytes.len()).min(buf.len());
         buf[..count].copy_from_slice(&self.bytes[..count]);
         self.bytes = &self.bytes[count..];
         Ok(count)
     }
 }
 
-/// A writer that keeps what it took.
-#[derive(Drop)]
-pub struct Sink {
-    taken: Vec<u8>,
-    turns: Turns,
-}
-
-impl Sink {
-    /// A writer that has taken nothing, and for which so many bytes want no memory.
-    pub fn with_room(alloc: Global, count: usize, conduct: Conduct) -> Result<Sink, AllocError> {
-        let mut taken = Vec::new(alloc);
-        taken.reserve(count)?;
-        let turns = Turns::new(conduct);
-        Ok(Sink { taken, turns })
-    }
-
-    /// What it took.
-    pub fn taken(&self) -> &[u8] {
-        self.taken.as_slice()
-    }
-}
-
-impl Write for Sink {
+impl Write for Device<Vec<u8>> {
     fn write(&mut self, buf: &[u8]) -> io::Result<usize> {
-        self.turns.turn()?;
-        let count = self.turns.conduct.most.min(buf.len());
-        match self.taken.extend_from_slice(&buf[..count]) {
+        self.turn()?;
+        let count = self.conduct.most.min(buf.len());
+        match self.bytes.extend_from_slice(&buf[..count]) {
             Ok(()) => Ok(count),
             Err(_) => Err(io::Error::from(ErrorKind::OutOfMemory)),
         }

@@ -5,7 +5,7 @@
 //! memory ran out. [`Line::finish`] reports the first fault, whatever was said after it.
 
 use crate::byte_text::bytes_of;
-use crate::devices::Conduct;
+use crate::devices::{Conduct, Sink};
 use crate::fault::ExampleFault;
 use nb_names::{DomainName, Name, Pointers, Scope, name_from_text, read_domain};
 use std::alloc::{AllocError, Global};
@@ -17,6 +17,9 @@ use std::str::FromStr;
 /// For how many bytes the text has room that is made right before a call
 /// (tests/lib/refuse_memory.c).
 const MARK: usize = 50_021;
+
+/// For how many bytes a writer has room, so that writing them wants no memory.
+const ROOM: usize = 150_000;
 
 /// Words that haven't been taken, and what stands between two of them.
 #[derive(Clone, Copy)]
@@ -94,6 +97,13 @@ impl<'a> Line<'a> {
             self.no_memory();
         }
         self.is_lacking = true;
+    }
+
+    /// Adds a value to a list.
+    pub fn push<T: Drop>(&mut self, list: &mut Vec<T>, value: T) {
+        if list.push(value).is_err() {
+            self.no_memory();
+        }
     }
 
     // ---- Words.
@@ -219,26 +229,22 @@ impl<'a> Line<'a> {
         address
     }
 
-    /// The next word, as the parts of a key, `10.0.0.5:138/0001`: address, port and identifier.
-    pub fn key_parts(&mut self) -> ([u8; 4], u16, u16) {
+    /// The next word, as an address and a port: `10.0.0.5:138`.
+    pub fn ends(&mut self) -> ([u8; 4], u16) {
         let word = self.word();
         let before = self.enter(word, ":");
-        let ip = self.address();
-        self.rest.between = "/";
-        let port = self.number();
-        let id = self.hex_16();
+        let ends = (self.address(), self.number());
         self.leave(before);
-        (ip, port, id)
+        ends
     }
 
     /// The next word, as how many keys a table may hold, and how many of one address: `8:2`.
     pub fn capacity(&mut self) -> (u32, u32) {
         let word = self.word();
         let before = self.enter(word, ":");
-        let keys = self.number();
-        let per_source = self.number();
+        let capacity = (self.number(), self.number());
         self.leave(before);
-        (keys, per_source)
+        capacity
     }
 
     /// The next word, which is one of two: whether it is the first.
@@ -255,19 +261,26 @@ impl<'a> Line<'a> {
     /// is `600/4` for 600 interrupts before the first, the fifth and each fourth call after it, and
     /// `1023` for 1,023 before each.
     pub fn conduct(&mut self) -> Conduct {
-        let most = self.number();
-        let word = self.word();
+        let (most, word) = (self.number(), self.word());
         let before = self.enter(word, "/");
         let interrupts = self.number();
         let every = if self.is_empty() { 1 } else { self.number() };
         self.leave(before);
-        let failing = self.number();
         Conduct {
             most,
             interrupts,
             every,
-            failing,
+            failing: self.number(),
         }
+    }
+
+    /// A writer that does so.
+    pub fn sink(&mut self, conduct: Conduct) -> Sink {
+        let mut taken = Vec::new(self.alloc);
+        if let Err(AllocError) = taken.reserve(ROOM) {
+            self.no_memory();
+        }
+        Sink::new(taken, conduct)
     }
 
     // ---- What is said.
@@ -275,6 +288,14 @@ impl<'a> Line<'a> {
     /// Whether nothing was said.
     pub fn is_silent(&self) -> bool {
         self.said.is_empty()
+    }
+
+    /// Says an answer's text, `; ` before it where it isn't the first.
+    pub fn then(&mut self, text: &str) {
+        if !self.said.is_empty() && !self.said.ends_with(" ") {
+            self.say("; ");
+        }
+        self.say(text);
     }
 
     /// Says a text.
@@ -340,7 +361,7 @@ impl<'a> Line<'a> {
     /// Says that memory ran out in a call that is made again, and whether what has to be as before
     /// is so.
     pub fn again(&mut self, is_same: bool) {
-        self.say(match is_same {
+        self.then(match is_same {
             true => "memory, as before, ",
             false => "memory, changed, ",
         });

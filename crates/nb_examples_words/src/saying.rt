@@ -1,50 +1,91 @@
-//! What is said of a line: numbers, names, bytes and texts.
+//! What is said of a line: what calls answer, one after another, and parts of it.
 
-use crate::byte_text::say_bytes;
+use crate::byte_text::{say_bytes, say_printed};
 use crate::line::Line;
 use nb_names::{Name, name_text};
 use nb_streams::Bytes;
 use std::fmt::{Debug, Display};
 
 impl Line<'_> {
-    /// Says a value after a text.
-    pub fn say_with<T: Display + Drop>(&mut self, lead: &str, value: T) {
-        self.say(lead);
-        self.write_fmt(value);
-    }
+    // ---- Answers, between which `; ` stands.
 
-    /// Says a value after a text, as `Debug` prints it.
-    pub fn say_debug<T: Debug>(&mut self, lead: &str, value: &T) {
-        self.say(lead);
+    /// Says a value as `Debug` prints it, but for lists of bytes, which are words.
+    pub fn says<T: Debug>(&mut self, value: &T) {
+        let before = self.aside();
         write!(self, "{value:?}");
+        let printed = self.back_to(before);
+        self.then("");
+        say_printed(self, printed.as_str());
     }
 
-    /// Says a byte after a text, as two hexadecimal digits.
-    pub fn say_hex_8(&mut self, lead: &str, number: u8) {
-        self.say(lead);
-        write!(self, "{number:02x}");
+    /// Says what a call answered: a value, or the text of a fault.
+    pub fn answers<T: Debug, E: Display>(&mut self, answer: &Result<T, E>) {
+        match answer {
+            Ok(value) => self.says(value),
+            Err(fault) => self.refuses(fault),
+        }
     }
 
-    /// Says a number after a text, as four hexadecimal digits.
-    pub fn say_hex_16(&mut self, lead: &str, number: u16) {
-        self.say(lead);
-        write!(self, "{number:04x}");
+    /// Says the text of a fault, or notes that memory ran out.
+    pub fn refuses<E: Display>(&mut self, fault: &E) {
+        let text = self.text_of(fault);
+        match text.as_str() == "memory" {
+            true => self.lacks(),
+            false => self.then(text.as_str()),
+        }
     }
 
-    /// Says an address after a text: `10.0.0.5`.
-    pub fn say_address(&mut self, lead: &str, address: [u8; 4]) {
-        let [a, b, c, d] = address;
-        self.say_with(lead, a);
-        self.say_with(".", b);
-        self.say_with(".", c);
-        self.say_with(".", d);
+    /// Whether a call answered that memory ran out in it.
+    pub fn lacked<T, E: Display>(&mut self, answer: &Result<T, E>) -> bool {
+        match answer {
+            Ok(_) => false,
+            Err(fault) => self.text_of(fault).as_str() == "memory",
+        }
     }
+
+    /// The text of a fault.
+    fn text_of<E: Display>(&mut self, fault: &E) -> String {
+        let before = self.aside();
+        write!(self, "{fault}");
+        self.back_to(before)
+    }
+
+    /// Whether a call was done; where it wasn't, the text of its fault is said.
+    pub fn is_done<E: Display>(&mut self, answer: &Result<(), E>) -> bool {
+        if let Err(fault) = answer {
+            self.refuses(fault);
+        }
+        answer.is_ok()
+    }
+
+    /// Says bytes that a call made, as a word, or the text of a fault.
+    pub fn gives<E: Display>(&mut self, made: &Result<Bytes, E>) {
+        match made {
+            Ok(bytes) => {
+                self.then("");
+                self.say_bytes(bytes.as_slice());
+            }
+            Err(fault) => self.refuses(fault),
+        }
+    }
+
+    /// Says a text that a call made, or that of a fault.
+    pub fn tells<E: Display>(&mut self, made: &Result<String, E>) {
+        match made {
+            Ok(text) => self.then(text.as_str()),
+            Err(fault) => self.refuses(fault),
+        }
+    }
+
+    // ---- Parts of answers.
 
     /// Says the text of a name after a text.
     pub fn say_name(&mut self, lead: &str, name: &Name) {
         self.say(lead);
-        let text = name_text(self.alloc(), name).ok();
-        self.say_made(text);
+        match name_text(self.alloc(), name) {
+            Ok(text) => self.say(text.as_str()),
+            Err(_) => self.no_memory(),
+        }
     }
 
     /// Says bytes as a word.
@@ -57,31 +98,9 @@ impl Line<'_> {
         let Ok(text) = str::from_utf8(text) else {
             return self.bad_words();
         };
-        let lines = text.replace(self.alloc(), "\n", ";").ok();
-        self.say_made(lines);
-    }
-
-    /// Says a text that a call made; none is made where memory ran out.
-    pub fn say_made(&mut self, text: Option<String>) {
-        match text {
-            Some(text) => self.say(text.as_str()),
-            None => self.no_memory(),
-        }
-    }
-
-    /// Says bytes that a call made between marks; none were made where memory ran out.
-    pub fn say_called_bytes(&mut self, bytes: Option<Bytes>) {
-        match bytes {
-            Some(bytes) => self.say_bytes(bytes.as_slice()),
-            None => self.lacks(),
-        }
-    }
-
-    /// Says a text that a call made between marks; none was made where memory ran out.
-    pub fn say_called(&mut self, text: Option<String>) {
-        match text {
-            Some(text) => self.say(text.as_str()),
-            None => self.lacks(),
+        match text.replace(self.alloc(), "\n", ";") {
+            Ok(lines) => self.say(lines.as_str()),
+            Err(_) => self.no_memory(),
         }
     }
 }

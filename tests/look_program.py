@@ -12,6 +12,7 @@ known by its place in the file alone. A header of which the snap length left a p
 import datetime
 import ipaddress
 import itertools
+import json
 import os
 import random
 import re
@@ -23,9 +24,11 @@ import tempfile
 
 sys.dont_write_bytecode = True
 HERE = os.path.dirname(os.path.abspath(__file__))
-sys.path[1:1] = [f'{HERE}/{it}' for it in ('lib', 'captures', '.')]
+sys.path[1:1] = [f'{HERE}/{it}' for it in ('lib', 'captures', '.', '../tools')]
 from model.objects import front_of, shown as packet_shown
 from model.phrases import said
+from nbt_look.kinds import kinds_of
+from nbt_look.vocabulary import KINDS_OF
 from parts import equal, finish, part, skip
 from random_pcap import pcap_of
 from wire import QUERY, RESPONSE, ethernet, pcap, sent, spaced, written
@@ -50,6 +53,9 @@ def main():
         if shutil.which('tshark'):
             part('tshark', lambda: beside_tshark(program, captures(room)))
             part('filters', lambda: filters(program, captures(room)))
+            part('kinds', lambda: kinds(program, captures(room)))
+            part('objects', lambda: objects(program, captures(room)))
+            part('colours', lambda: colours(program, captures(room)))
         else:
             skip('tshark', "it isn't there")
         part('prefixes', lambda: prefixes(program, room))
@@ -224,6 +230,101 @@ def names_in(told):
                 yield from names_in(value)
 
 
+# ---- kinds, objects and colours
+
+# The kinds of packets that are listed.
+KIND_WORDS = ('query, status, registration, refresh, release, wack, response, conflict, datagram, unique, group, broadcast, fragment, error, find, found, '
+              'missing, positive, negative, malformed or left-out')
+OUR_KINDS = [kind for title, kinds_there in KINDS_OF.items() if title != 'port 139' for kind in kinds_there]
+
+
+def kinds(program, paths):
+    """What is shown of some kinds, beside the tool of tools/ over the model's objects."""
+    random_of = random.Random(11)
+    for path in paths:
+        rows = [each for each in tshark_rows(path) if is_plain(each)]
+        shown_whole = shown_rows(program, path, [], rows)
+        if not shown_whole:
+            continue
+        known = {each['frame.number']: set(kinds_of(service_of(each), told_of(each))) for each in shown_whole}
+        for words in [random_of.sample(OUR_KINDS, random_of.randint(1, 3)) for _ in range(4)] + [['malformed', 'left-out']]:
+            wanted = [each for each, has in known.items() if has & set(words)]
+            given = [each['frame.number'] for each in shown_rows(program, path, ['--kind', ','.join(words)], rows)]
+            equal(given, wanted, f'--kind {",".join(words)} of {os.path.basename(path)}')
+
+
+def told_of(row):
+    """The object of a row's payload, with what still stands of it; none where no byte or not all of it is there."""
+    payload, size, service = bytes.fromhex(row['udp.payload'].replace(':', '')), int(row['udp.length']) - 8, service_of(row)
+    if size <= len(payload):
+        return packet_shown(service, payload[:size]) | front_of(service, payload[:size])
+    return {'cut': True} | front_of(service, payload)
+
+
+def objects(program, paths):
+    """The objects of --json, beside tshark's fields and the model's objects; and the counts."""
+    for path in paths:
+        rows = {each['frame.number']: each for each in tshark_rows(path) if is_plain(each)}
+        done = run(program, path, words=['--json'])
+        *given, counts = [json.loads(each) for each in done.stdout.splitlines()] or [None]
+        lines = run(program, path, words=['--time', 'utc']).stdout.decode(errors='surrogateescape').splitlines()
+        listed = [each for each in lines if LINE.match(each)]
+        equal([each['frame'] for each in given], [int(each.split()[0]) for each in listed], f'--json of {os.path.basename(path)}')
+        first = next((nanoseconds(each) for each in tshark_rows(path) if each['frame.time_epoch']), None)
+        for each in given:
+            if str(each['frame']) in rows:
+                for own in ('vlans', 'from_mac', 'to_mac'):
+                    del each[own]
+                equal(each, object_of(rows[str(each['frame'])], first), f'frame {each["frame"]} of {os.path.basename(path)}')
+        if counts:
+            words = [f'{counts["frames"]} frame', f'{counts["packets"]} packet', f'{counts["malformed"]} malformed']
+            line = next(each for each in lines if COUNTS.match(each.encode(errors='surrogateescape')))
+            equal([word in line for word in words] + [sum(each['frames'] for each in counts['left_out'])],
+                  [True] * 3 + [int(line.split(' left out')[0].rsplit(' ', 1)[1])], f'the counts of {os.path.basename(path)}')
+            quiet = run(program, path, words=['--json', '--quiet']).stdout.splitlines()
+            equal(quiet, done.stdout.splitlines()[:-1], f'--quiet of {os.path.basename(path)}')
+
+
+def nanoseconds(row):
+    second, _, rest = row['frame.time_epoch'].partition('.')
+    return int(second) * BILLION + int(rest.ljust(9, '0')[:9])
+
+
+def object_of(row, first):
+    """The object of a row, but for what tshark's fields don't say: VLANs and hardware addresses, which are the program's own."""
+    service, size, payload = service_of(row), int(row['udp.length']) - 8, bytes.fromhex(row['udp.payload'].replace(':', ''))
+    name, phrase = row['frame.interface_name'], phrase_of(row, service)
+    ends = [str(ipaddress.ip_address(row['ip.' + each] or row['ipv6.' + each])) for each in ('src', 'dst')]
+    told = told_of(row)
+    if told.pop('cut', False):
+        captured, full = int(row['frame.cap_len']), int(row['frame.len'])
+        if captured == full:
+            told = {'left_out': 'a length that the packet lacks'}
+        elif not payload:
+            told = {'left_out': 'cut by the snap length'}
+        else:
+            told = {'cut': size} | packet_shown(service, payload) | front_of(service, payload)
+    return {
+        'frame': int(row['frame.number']), 'time': utc(row['frame.time_epoch']), 'from': ends[0], 'to': ends[1],
+        'from_port': int(row['udp.srcport']), 'to_port': int(row['udp.dstport']),
+        'interface': ''.join(map(shown, name.encode(errors='surrogateescape'))) if name not in ('', 'unknown') else None,
+        'size': int(row['frame.len']), 'captured': int(row['frame.cap_len']), 'port': service,
+        'moment': max(nanoseconds(row) - first, 0) // 10**6, 'brief': phrase} | told
+
+
+SGR = re.compile(r'\x1b\[(?:31|33|35)m(.*)\x1b\[0m')
+
+
+def colours(program, paths):
+    """Lines in colours are the same but for these; without a terminal there are none."""
+    for path in paths[:8]:
+        plain, always = (run(program, path, words=words).stdout.decode(errors='surrogateescape') for words in ([], ['--color', 'always']))
+        equal([SGR.sub(r'\1', each) for each in always.splitlines()], plain.splitlines(), f'--color always of {os.path.basename(path)}')
+        red = [SGR.sub(r'\1', each) for each in always.splitlines() if each.startswith('\x1b[31m')]
+        equal(red, [each for each in plain.splitlines() if LINE.match(each) and ' refused: ' in each], f'what is red of {os.path.basename(path)}')
+        equal(run(program, path, words=['--color', 'never']).stdout.decode(errors='surrogateescape'), plain, f'--color never of {os.path.basename(path)}')
+
+
 def utc(epoch):
     """The date and time of day at a time in seconds since 1970, as tshark writes them."""
     second, _, rest = epoch.partition('.')
@@ -322,6 +423,14 @@ def others(program, room):
     done = run(program, '-', FRAMES, ['--time', 'local'])
     said_so = b'nbt-look: local: no way to show times: give start, or utc\n'
     equal((done.stdout, done.stderr, done.returncode), (b'', said_so, 2), '--time local')
+    for given, why in (('queries', f'no kind: give {KIND_WORDS}'), ('query,', f'no kind: give {KIND_WORDS}'),
+                       ('query,message', "a kind of packets of port 139, which aren't read yet")):
+        done = run(program, '-', FRAMES, ['--kind', given])
+        said_so = f"nbt-look: {given.split(',')[-1]}: {why}\n".encode()
+        equal((done.stdout, done.stderr, done.returncode), (b'', said_so, 2), f'--kind {given}')
+    done = run(program, '-', FRAMES, ['--color', 'red'])
+    said_so = b'nbt-look: red: no way to choose colours: give auto, always, or never\n'
+    equal((done.stdout, done.stderr, done.returncode), (b'', said_so, 2), '--color red')
     full = subprocess.run([program, '-'], input=FRAMES, stdout=open('/dev/full', 'wb'), stderr=subprocess.PIPE, check=False)
     equal((full.stderr, full.returncode), (b"nbt-look: standard output can't be written\n", 3), 'a full device')
     live(program)

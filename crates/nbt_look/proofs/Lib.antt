@@ -2,3 +2,4 @@ mod FrontLemmas
 mod PrintingLemmas
 mod TimesLemmas
 mod NamingLemmas
+mod ObjectLemmas

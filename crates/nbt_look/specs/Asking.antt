@@ -1,9 +1,13 @@
 -- What words of the command line mean (our choice).
-use Rattle.std.specs.Prelude.{◌≡◌, ℕ, ◌≤◌, List, ◌∷◌, ◌++◌}
+use Rattle.std.specs.Prelude.{◌≡◌, ℕ, ◌≤◌, Bool, List, ◌∷◌, ◌++◌, cond}
 use Rattle.core.specs.Str.Parse.{digits_value, without_leading_plus}
 use Rattle.std.specs.Net.Grammar.{IsIpText}
 use Rattle.std.specs.declared.net.ip_addr.IpAddr.{IpAddr}
 use Rattle.std.specs.declared.net.ip_addr.IpAddr.TheVariants.{V4, V6}
+use Rattle.nbt_look.specs.declared.asked.Asked.{Asked}
+use Rattle.nbt_look.specs.declared.asked.Form.TheVariants.{Objects, ObjectsAlone}
+use Rattle.nbt_look.specs.declared.asked.Times.TheVariants.{Utc}
+use Rattle.nbt_look.specs.declared.wanted.Filter.{Filter}
 use Rattle.nbt_look.specs.declared.wanted.Prefix.{Prefix}
 
 -- the byte of `/`
@@ -20,3 +24,7 @@ pub data MeansPrefix (word : List ℕ) (prefix : Prefix) : Type 0 where
   alone : IsIpText word prefix.start → prefix.bits ≡ width_of prefix.start → MeansPrefix word prefix
   first_bits : (address digits : List ℕ) → word ≡ address ++ slash ∷ digits → IsIpText address prefix.start
       → digits_value 10 (without_leading_plus digits) ≡ prefix.bits → prefix.bits ≤ width_of prefix.start → MeansPrefix word prefix
+
+-- objects_asked wanted is_quiet: what is asked where packets are shown as objects, whose times are in UTC
+abbrev pub objects_asked : Filter → Bool → Asked
+objects_asked wanted is_quiet = record { wanted = wanted; times = Utc; form = cond is_quiet ObjectsAlone Objects }

@@ -25,6 +25,10 @@ host_rule = repeated_rule (codes "host")
 abbrev pub port_rule : Rule
 port_rule = record (repeated_rule (codes "port")) { parser = Some (Unsigned 0 65_535) }
 
+-- `--kind KIND,..`
+abbrev pub kind_rule : Rule
+kind_rule = repeated_rule (codes "kind")
+
 -- `-c N`, from 1 to the greatest number of 64 bits
 abbrev pub count_rule : Rule
 count_rule = record (new_rule (codes "count")) {
@@ -46,14 +50,23 @@ top_app = on_top (λ s. record s { has_version = true }) (new_app (codes "nbt-lo
 abbrev pub time_rule : Rule
 time_rule = record (new_rule (codes "time")) { long = Some (codes "time"); action = Some Set; value_names = 1 }
 
+-- `--color WHEN`
+abbrev pub colour_rule : Rule
+colour_rule = record (new_rule (codes "color")) { long = Some (codes "color"); action = Some Set; value_names = 1 }
+
 -- the same with the options of what is wanted
 abbrev pub with_filters : App
-with_filters = with_rule (with_rule (with_rule (with_rule (with_rule top_app quiet_rule) name_rule) host_rule) port_rule) count_rule
+with_filters =
+    with_rule (with_rule (with_rule (with_rule (with_rule (with_rule top_app quiet_rule) name_rule) host_rule) port_rule) kind_rule) count_rule
 
--- the same with the option of times
+-- `--json`, which is given or not
+abbrev pub json_rule : Rule
+json_rule = record (new_rule (codes "json")) { long = Some (codes "json"); action = Some SetTrue }
+
+-- the same with the options of how packets are shown
 abbrev pub with_options : App
-with_options = with_rule with_filters time_rule
+with_options = with_rule (with_rule (with_rule with_filters time_rule) colour_rule) json_rule
 
--- the whole command line: `[--quiet] [--name TEXT].. [--host ADDRESS].. [--port PORT].. [-c N] [--time WHEN] FILE`
+-- the whole command line: `[--quiet] [--name TEXT].. [--host ADDRESS].. [--port PORT].. [--kind KIND,..].. [-c N] [--time WHEN] [--color WHEN] [--json] FILE`
 abbrev pub look_app : App
 look_app = with_rule with_options file_rule

@@ -5,7 +5,9 @@ pub mod Standing
 pub mod Wanted
 pub mod Counting
 pub mod Listing
+pub mod Bare
 pub mod Totals
+pub mod Objects
 pub mod Printing
 pub mod Beginning
 pub mod FaultTexts
@@ -13,3 +15,7 @@ pub mod Running
 pub mod CommandLine
 pub mod Asking
 pub mod Naming
+pub mod Hearing
+pub mod Kinds
+pub mod Colours
+pub mod Choosing

@@ -13,12 +13,17 @@ use Rattle.nbt_look.specs.declared.counting.LeftOut.TheVariants as why
 use Rattle.nbt_look.specs.declared.counting.Outcome.TheVariants as outcome
 use Rattle.nbt_look.specs.declared.listing.Listing.{Listing}
 use Rattle.nbt_look.specs.declared.asked.Asked.{Asked}
+use Rattle.nbt_look.specs.declared.asked.Form.{Form}
+use Rattle.nbt_look.specs.declared.asked.Form.TheVariants.{Lines, Colours, Objects, ObjectsAlone}
+use Rattle.nbt_look.specs.declared.widths.Widths.{Widths}
+use Rattle.nbt_look.specs.Colours.{IsColoured}
 use Rattle.nbt_look.specs.Columns.{CellTexts, first_widths, widened, line_text}
 use Rattle.nbt_look.specs.Counting.{no_counts, counted, more, unread}
 use Rattle.nbt_look.specs.Ends.{end_text, first_label, label_of, mark_in}
+use Rattle.nbt_look.specs.Objects.{IsPacketObject}
 use Rattle.nbt_look.specs.Standing.{Says, outcome_in, standing_of}
 use Rattle.nbt_look.specs.Times.{IsTime, first_after}
-use Rattle.nbt_look.specs.Naming.{IsWanted}
+use Rattle.nbt_look.specs.Choosing.{IsWanted}
 use Rattle.nbt_look.specs.Wanted.{is_enough}
 
 -- before the first frame, where this is asked
@@ -61,15 +66,33 @@ listed now label cells o = record {
 abbrev pub Passes : Listing → Outcome → Listing → List ℕ → Type 0
 Passes now o new text = (new ≡ passed now o) × (text ≡ [])
 
--- HasLine now cells label o phrase new text: the line with these cells and this phrase, of a frame that counts so
-abbrev pub HasLine : Listing → CellTexts → List ℕ → Outcome → List ℕ → Listing → List ℕ → Type 0
-HasLine now cells label o phrase new text = (new ≡ listed now label cells o) × (text ≡ line_text new.widths cells phrase)
+-- what is printed of a frame, of which there is a line or an object
+abbrev pub printed : Form → List ℕ → List ℕ → List ℕ
+printed Lines line object = line
+printed Colours line object = line
+printed Objects line object = object
+printed ObjectsAlone line object = object
+
+-- Shows form first widths cells n f d port o phrase text: the text of frame n, which has this datagram and counts so, with these cells and
+-- this phrase; first is the time of the first frame that has one
+abbrev pub Shows : Form → Option ℕ → Widths → CellTexts → ℕ → FrameValue → UdpDatagram → ℕ → Outcome → List ℕ → List ℕ → Type 0
+Shows Lines first widths cells n f d port o phrase text = text ≡ line_text widths cells phrase
+Shows Colours first widths cells n f d port o phrase text = IsColoured o d.payload.bytes port widths cells phrase text
+Shows Objects first widths cells n f d port o phrase text = IsPacketObject n f d port first cells.time phrase text
+Shows ObjectsAlone first widths cells n f d port o phrase text = IsPacketObject n f d port first cells.time phrase text
+
+-- HasLine now at n f d port o phrase new text: the text of frame n, which has this datagram and counts so, whose time is shown so, with this
+-- phrase
+abbrev pub HasLine : Listing → List ℕ → ℕ → FrameValue → UdpDatagram → ℕ → Outcome → List ℕ → Listing → List ℕ → Type 0
+HasLine now at n f d port o phrase new text =
+    let cells = cells_of now n at (label_in f) d port in
+    (new ≡ listed now (label_in f) cells o) × Shows now.asked.form now.first new.widths cells n f d port o phrase text
 
 -- ListsSaid wanted now n f d port phrase new text: the line of frame n, which has this datagram, of which this is said, where it is wanted
 abbrev pub ListsSaid : Bool → Listing → ℕ → FrameValue → UdpDatagram → ℕ → List ℕ → Listing → List ℕ → Type 0
 ListsSaid true now n f d port phrase new text =
     (at : List ℕ) × IsTime now.asked.times now.first f.time at
-    × HasLine now (cells_of now n at (label_in f) d port) (label_in f) (outcome_in (standing_of f d.payload) phrase) phrase new text
+    × HasLine now at n f d port (outcome_in (standing_of f d.payload) phrase) phrase new text
 ListsSaid false now n f d port phrase new text = Passes now (outcome_in (standing_of f d.payload) phrase) new text
 
 -- ListsDatagram now n f d port new text: the line of frame n, which has this datagram, where `now` stands before it
@@ -77,7 +100,7 @@ pub record ListsDatagram (now : Listing) (n : ℕ) (f : FrameValue) (d : UdpData
   pub phrase : List ℕ
   pub says : Says f d.payload port phrase
   pub wanted : Bool
-  pub is_wanted : IsWanted now.asked.wanted d port wanted
+  pub is_wanted : IsWanted now.asked.wanted d port (outcome_in (standing_of f d.payload) phrase) wanted
   pub lists : ListsSaid wanted now n f d port phrase new text
 
 -- ListsUdp port ..: a datagram has a line where it is of a service

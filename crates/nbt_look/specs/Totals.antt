@@ -5,7 +5,12 @@ use Rattle.nbt_look.specs.declared.counting.LeftOut.{LeftOut as Why}
 use Rattle.nbt_look.specs.declared.counting.LeftOut.TheVariants as why
 use Rattle.nbt_look.specs.declared.counting.Counts.{Counts}
 use Rattle.nbt_look.specs.declared.listing.Listing.{Listing}
+use Rattle.nb_telling.specs.Telling.{Begins, Ends, Field, Number, Part, PartEnds, Text}
+use Rattle.nb_telling.specs.ObjectLines.{object_line}
+use Rattle.nbt_look.specs.declared.asked.Form.{Form}
+use Rattle.nbt_look.specs.declared.asked.Form.TheVariants.{Lines, Colours, Objects, ObjectsAlone}
 use Rattle.nbt_look.specs.Counting.{count_of, has_none}
+use Rattle.nbt_look.specs.Bare.{bare_tag}
 use Rattle.nbt_look.specs.Wanted.{wants_all}
 
 -- a reason, in words that go with any number
@@ -85,5 +90,36 @@ without_text true c = others_text c ++ none_text c
 without_text false c = none_text c
 
 -- the last lines
+abbrev pub last_lines : Listing → List ℕ
+last_lines l = totals_text l ++ without_text (wants_all l.asked.wanted) l.counts
+
+-- ---- the same as an object
+
+-- how many frames a reason left out, as a part of a list
+abbrev pub reason_fields : ℕ → Why → List Field
+reason_fields count w = Part [] ∷ Text (bare_tag (codes "reason")) (words_of w) ∷ Number (bare_tag (codes "frames")) count ∷ PartEnds ∷ []
+
+-- how many frames each of these reasons left out, where it did
+abbrev pub reasons_fields : Counts → List Why → List Field
+reasons_fields c [] = []
+reasons_fields c (w ∷ ws) =
+    cond (nat_eq (count_of w c) 0) (reasons_fields c ws) (reason_fields (count_of w c) w ++ reasons_fields c ws)
+
+-- how many frames and packets there are, and what they have
+abbrev pub counts_fields : Listing → List Field
+counts_fields l =
+    Number (bare_tag (codes "frames")) l.counts.frames ∷ Number (bare_tag (codes "packets")) l.counts.packets
+    ∷ Number (bare_tag (codes "malformed")) l.counts.malformed ∷ Begins (codes "left_out")
+    ∷ (reasons_fields l.counts all_reasons
+    ++ Ends ∷ Number (bare_tag (codes "others")) l.counts.others ∷ Number (bare_tag (codes "shown")) l.shown ∷ [])
+
+-- what stands after the list in this form
+abbrev pub last_in : Form → Listing → List ℕ
+last_in Lines l = last_lines l
+last_in Colours l = last_lines l
+last_in Objects l = object_line (counts_fields l)
+last_in ObjectsAlone l = []
+
+-- the same in the form that is asked for
 abbrev pub last_text : Listing → List ℕ
-last_text l = totals_text l ++ without_text (wants_all l.asked.wanted) l.counts
+last_text l = last_in l.asked.form l

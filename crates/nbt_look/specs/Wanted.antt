@@ -1,6 +1,6 @@
--- Which packets of the list are wanted: those of some hosts, of some ports, with some names, or any (our choice). Of several values of an option one
+-- Which packets of the list are wanted: those of some hosts, of some ports, with some names, of some kinds, or any (our choice). Of several values of an option one
 -- has to fit, and every option that is given.
-use Rattle.std.specs.Prelude.{ℕ, ◌-◌, ◌/◌, ◌^◌, ◌&&◌, ◌||◌, Bool, true, false, List, [], ◌∷◌, Option, Some, None, nat_eq, nat_le}
+use Rattle.std.specs.Prelude.{ℕ, ◌-◌, ◌/◌, ◌^◌, ◌&&◌, ◌||◌, Bool, true, false, not, List, [], ◌∷◌, Option, Some, None, nat_eq, nat_le}
 use Rattle.std.specs.List.{list_any}
 use Rattle.std.specs.Net.Addr.{ipv4_bits, ipv6_bits}
 use Rattle.std.specs.declared.net.ip_addr.IpAddr.{IpAddr}
@@ -52,7 +52,11 @@ is_any (one ∷ others) = false
 
 -- whether every packet is wanted
 abbrev pub wants_all : Filter → Bool
-wants_all filter = is_any filter.names && (is_any filter.hosts && is_any filter.ports)
+wants_all filter = is_any filter.names && (is_any filter.hosts && (is_any filter.ports && is_any filter.kinds))
+
+-- whether it depends on what a payload has that a packet is wanted
+abbrev pub looks_inside : Filter → Bool
+looks_inside filter = not (is_any filter.names) || not (is_any filter.kinds)
 
 -- reaches most shown: whether so many packets are as many as are wanted at most
 abbrev pub reaches : Option ℕ → ℕ → Bool

@@ -11,6 +11,19 @@ pub enum Times {
     Utc,
 }
 
+/// How packets are shown.
+#[derive(Clone, Copy, Debug, PartialEq, Eq)]
+pub enum Form {
+    /// As lines.
+    Lines,
+    /// As lines, some of which have colours.
+    Colours,
+    /// As JSON objects, of which the last one has the counts.
+    Objects,
+    /// As JSON objects, and no counts.
+    ObjectsAlone,
+}
+
 /// What is asked of the list.
 #[derive(Drop)]
 pub struct Asked {
@@ -18,4 +31,6 @@ pub struct Asked {
     pub wanted: Filter,
     /// How times are shown.
     pub times: Times,
+    /// How packets are shown.
+    pub form: Form,
 }

@@ -1,7 +1,7 @@
 //! The program's command line.
 ghost use Rattle.std.specs.Prelude.{◌≡◌, IfOk, codes, false};
 ghost use Rattle.clap.specs.Words.{app_of, new_app, rule_of};
-ghost use Rattle.nbt_look.specs.CommandLine.{count_rule, file_rule, host_rule, look_app, name_rule, port_rule, quiet_rule, repeated_rule, time_rule};
+ghost use Rattle.nbt_look.specs.CommandLine.{colour_rule, count_rule, file_rule, host_rule, json_rule, kind_rule, look_app, name_rule, port_rule, quiet_rule, repeated_rule, time_rule};
 
 use clap::builder::ValueParser;
 use clap::{Arg, ArgAction, Command};
@@ -17,14 +17,19 @@ count frames, packets, those that are malformed, and what is left out, by reason
 where it isn't the service's own, and %eth1 after a sender where a packet came by another \
 interface than the first one.
 
+Kinds of port 137: query, status (of a node), registration, refresh, release, wack, each with its \
+answers; response, any answer; conflict, which refuses a name that another station has, or says \
+that one is in conflict. Of port 138: datagram, for unique, group and broadcast; fragment, a piece \
+of one; error, find, found, missing. Of both: positive and negative, answers; malformed; left-out.
+
 Live: tcpdump --immediate-mode -U -w - -i eth0 'port 137 or 138' | nbt-look -
 
 Exit status: 0 all was read; 1 the file is no capture file or ends early, and what stands before \
 is shown; 2 the command line was bad; 3 the file can't be opened, a read or a write failed, or \
 memory ran out.";
 
-/// The command line: `[--quiet] [--name TEXT].. [--host ADDRESS].. [--port PORT].. [-c N]
-/// [--time WHEN] FILE`.
+/// The command line: `[--quiet] [--name TEXT].. [--host ADDRESS].. [--port PORT]..
+/// [--kind KIND,..].. [-c N] [--time WHEN] [--color WHEN] [--json] FILE`.
 ///
 /// # Errors
 ///
@@ -37,9 +42,12 @@ pub fn command<'a>(alloc: Global) -> Result<Command<'a>, AllocError>
     let name = quiet.arg(name_option(alloc))?;
     let host = name.arg(host_option(alloc))?;
     let port = host.arg(port_option(alloc))?;
-    let count = port.arg(count_option(alloc))?;
+    let kind = port.arg(kind_option(alloc))?;
+    let count = kind.arg(count_option(alloc))?;
     let time = count.arg(time_option(alloc))?;
-    let whole = time.arg(file_word(alloc))?;
+    let colour = time.arg(colour_option(alloc))?;
+    let json = colour.arg(json_flag(alloc))?;
+    let whole = json.arg(file_word(alloc))?;
     Ok(whole)
 }
 
@@ -59,7 +67,7 @@ fn quiet_flag<'a>(alloc: Global) -> Arg<'a>
 {
     Arg::new(alloc, "quiet")
         .long("quiet")
-        .help("No progress; the list has none")
+        .help("No progress, which the list has none of, and with --json no counts")
         .action(ArgAction::SetTrue)
 }
 
@@ -104,6 +112,14 @@ fn port_option<'a>(alloc: Global) -> Arg<'a>
         .value_parser(ValueParser::unsigned(0, 65535))
 }
 
+/// The option `--kind KIND,..`.
+fn kind_option<'a>(alloc: Global) -> Arg<'a>
+    ensures rule { rule_of result ≡ kind_rule }
+    ensures local { result.global ≡ false }
+{
+    repeated(alloc, "kind", "KIND,..").help("Packets of these kinds, of those below")
+}
+
 /// The option `-c N`.
 fn count_option<'a>(alloc: Global) -> Arg<'a>
     ensures rule { rule_of result ≡ count_rule }
@@ -127,6 +143,29 @@ fn time_option<'a>(alloc: Global) -> Arg<'a>
         .value_name("WHEN")
         .help("Times: start, in seconds since the first frame, or utc")
         .action(ArgAction::Set)
+}
+
+/// The option `--color WHEN`.
+fn colour_option<'a>(alloc: Global) -> Arg<'a>
+    ensures rule { rule_of result ≡ colour_rule }
+    ensures local { result.global ≡ false }
+{
+    Arg::new(alloc, "color")
+        .long("color")
+        .value_name("WHEN")
+        .help("Colours: auto, on a terminal unless NO_COLOR is set, always, or never")
+        .action(ArgAction::Set)
+}
+
+/// The flag `--json`.
+fn json_flag<'a>(alloc: Global) -> Arg<'a>
+    ensures rule { rule_of result ≡ json_rule }
+    ensures local { result.global ≡ false }
+{
+    Arg::new(alloc, "json")
+        .long("json")
+        .help("A JSON object for each packet, and one with the counts; times are in UTC")
+        .action(ArgAction::SetTrue)
 }
 
 /// The word FILE.

@@ -9,7 +9,7 @@ use std::alloc::Global;
 use std::net::IpAddr;
 
 /// Adds an address.
-fn push_ip(address: IpAddr, text: &mut String) -> Result<(), NoMemory>
+pub fn push_ip(address: IpAddr, text: &mut String) -> Result<(), NoMemory>
     ensures { OnOk result (string_bytes text.new ≡ string_bytes text.old ++ ip_text address) }
 {
     match address {
@@ -68,7 +68,7 @@ fn push_shown_byte(byte: u8, text: &mut String) -> Result<(), NoMemory>
 }
 
 /// Adds the bytes of a name.
-fn push_name(name: &[u8], text: &mut String) -> Result<(), NoMemory>
+pub fn push_name(name: &[u8], text: &mut String) -> Result<(), NoMemory>
     ensures { OnOk result
         (string_bytes text.new ≡ string_bytes text.old ++ flat_map shown_byte name.now) }
 {
@@ -79,7 +79,7 @@ fn push_name(name: &[u8], text: &mut String) -> Result<(), NoMemory>
 }
 
 /// Whether this is no name of an interface.
-fn is_no_name(name: &[u8]) -> bool
+pub fn is_no_name(name: &[u8]) -> bool
     ensures { result ≡ is_no_name name.now }
 {
     name.is_empty() || name == b"unknown".as_slice()

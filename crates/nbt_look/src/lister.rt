@@ -1,21 +1,26 @@
 //! The lines of the list, one after another.
 ghost use Rattle.std.specs.Prelude.{◌≡◌, ◌++◌, [], ℕ, List, OnOk, string_bytes, Option};
 ghost use Rattle.nb_pcap.specs.Frame.{value_of};
+ghost use Rattle.nbt_look.specs.Objects.{IsPacketObject};
 ghost use Rattle.nbt_look.specs.Times.{IsTime};
-ghost use Rattle.nbt_look.specs.Listing.{HasLine, Lists, ListsCarried, ListsDatagram, cells_of, label_in, listed, nothing_listed, segment_outcome};
+ghost use Rattle.nbt_look.specs.Listing.{HasLine, Lists, ListsCarried, ListsDatagram, Shows, cells_of, label_in, listed, nothing_listed, printed, segment_outcome};
 
-use crate::asked::Asked;
+use crate::asked::{Asked, Form};
 use crate::cells::{set_cells, set_label};
+use crate::choosing::is_wanted;
+use crate::colours::push_coloured;
 use crate::counting::{LeftOut, Outcome, more, unread};
 use crate::ends::keep_first;
 use crate::listing::Listing;
-use crate::naming::is_wanted;
+use crate::objects::{Shown, packet_object};
 use crate::standing::{outcome_in, push_said, standing_of};
 use crate::widths::{Cells, push_line};
 use nb_frames::{Carried, UdpDatagram, contents_of};
 use nb_pcap::Frame;
 use nb_streams::NoMemory;
+use nb_telling::JsonRoom;
 use std::alloc::Global;
+use std::mem;
 
 /// The line of a frame, and what the lines before leave to it. The memory of texts is used again.
 #[derive(Drop)]
@@ -26,8 +31,10 @@ pub struct Lister {
     cells: Cells,
     label: String,
     phrase: String,
-    /// The text of the frame that came last.
-    pub text: String,
+    /// The line of the frame that came last.
+    text: String,
+    /// Its object.
+    room: JsonRoom,
 }
 
 /// How a segment of TCP counts, by the port of its service.
@@ -52,15 +59,42 @@ impl Lister {
             label: String::new(alloc),
             phrase: String::new(alloc),
             text: String::new(alloc),
+            room: JsonRoom::new(alloc),
+        }
+    }
+
+    /// What is printed of the frame that came last.
+    pub fn printed(&self) -> &[u8]
+        ensures { result.now ≡ printed self.now.listing.asked.form (string_bytes self.now.text)
+            self.now.room }
+    {
+        match self.listing.asked.form {
+            Form::Lines | Form::Colours => self.text.as_bytes(),
+            Form::Objects | Form::ObjectsAlone => self.room.as_slice(),
+        }
+    }
+
+    /// Lets go of what is printed of the frame that came last.
+    fn clear(&mut self)
+        ensures listing { self.new.listing ≡ self.old.listing }
+        ensures printed { printed self.new.listing.asked.form (string_bytes self.new.text)
+            self.new.room ≡ [] }
+    {
+        match self.listing.asked.form {
+            Form::Lines | Form::Colours => self.text.clear(),
+            Form::Objects | Form::ObjectsAlone => {
+                self.room = mem::replace(&mut self.room, JsonRoom::new(self.alloc)).cleared();
+            }
         }
     }
 
     /// Makes the text of a frame: a line, or none.
     pub fn make(&mut self, frame: &Frame<'_>) -> Result<(), NoMemory>
         ensures { OnOk result (Lists frame.now.number (value_of frame.now)
-            self.old.listing self.new.listing (string_bytes self.new.text)) }
+            self.old.listing self.new.listing (printed self.new.listing.asked.form
+            (string_bytes self.new.text) self.new.room)) }
     {
-        self.text.clear();
+        self.clear();
         self.listing.see(frame.time);
         let contents = contents_of(frame.link, frame.bytes);
         self.make_carried(frame, &contents.carried)
@@ -68,9 +102,11 @@ impl Lister {
 
     /// Makes the text of a frame that carries this.
     fn make_carried(&mut self, frame: &Frame<'_>, carried: &Carried<'_>) -> Result<(), NoMemory>
-        requires { string_bytes self.old.text ≡ [] }
+        requires { printed self.old.listing.asked.form (string_bytes self.old.text)
+            self.old.room ≡ [] }
         ensures { OnOk result (ListsCarried carried.now self.old.listing frame.now.number
-            (value_of frame.now) self.new.listing (string_bytes self.new.text)) }
+            (value_of frame.now) self.new.listing (printed self.new.listing.asked.form
+            (string_bytes self.new.text) self.new.room)) }
     {
         let outcome = match carried {
             Carried::Udp(datagram) => match carried.service_port() {
@@ -93,15 +129,23 @@ impl Lister {
         datagram: &UdpDatagram<'_>,
         port: u16,
     ) -> Result<(), NoMemory>
-        requires { string_bytes self.old.text ≡ [] }
+        requires { printed self.old.listing.asked.form (string_bytes self.old.text)
+            self.old.room ≡ [] }
         ensures { OnOk result (ListsDatagram self.old.listing frame.now.number (value_of frame.now)
-            datagram.now port self.new.listing (string_bytes self.new.text)) }
+            datagram.now port self.new.listing (printed self.new.listing.asked.form
+            (string_bytes self.new.text) self.new.room)) }
     {
         let standing = standing_of(frame, &datagram.payload);
         self.phrase.clear();
         push_said(standing, frame, &datagram.payload, port, &mut self.phrase)?;
         let outcome = outcome_in(standing, self.phrase.as_str());
-        if is_wanted(self.alloc, &self.listing.asked.wanted, datagram, port)? {
+        if is_wanted(
+            self.alloc,
+            &self.listing.asked.wanted,
+            datagram,
+            port,
+            outcome,
+        )? {
             return self.make_line(frame, datagram, port, outcome);
         }
         self.listing.pass(outcome);
@@ -117,13 +161,13 @@ impl Lister {
         port: u16,
         outcome: Outcome,
     ) -> Result<(), NoMemory>
-        requires { string_bytes self.old.text ≡ [] }
+        requires { printed self.old.listing.asked.form (string_bytes self.old.text)
+            self.old.room ≡ [] }
         ensures { OnOk result ((at : List ℕ)
             × IsTime self.old.listing.asked.times self.old.listing.first frame.now.time at
-            × HasLine self.old.listing (cells_of self.old.listing frame.now.number at
-            (label_in (value_of frame.now)) datagram.now port)
-            (label_in (value_of frame.now)) outcome (string_bytes self.old.phrase)
-            self.new.listing (string_bytes self.new.text)) }
+            × HasLine self.old.listing at frame.now.number (value_of frame.now) datagram.now port
+            outcome (string_bytes self.old.phrase) self.new.listing
+            (printed self.new.listing.asked.form (string_bytes self.new.text) self.new.room)) }
     {
         set_label(frame, &mut self.label)?;
         set_cells(
@@ -141,12 +185,65 @@ impl Lister {
             &self.cells,
             outcome,
         )?;
-        push_line(
-            self.listing.widths,
-            &self.cells,
-            self.phrase.as_str(),
-            &mut self.text,
-        )
+        self.show(frame, datagram, port, outcome)
+    }
+
+    /// Makes the text of a frame that has this datagram of the service of this port, and counts so,
+    /// of which the cells and the phrase are made.
+    fn show(
+        &mut self,
+        frame: &Frame<'_>,
+        datagram: &UdpDatagram<'_>,
+        port: u16,
+        outcome: Outcome,
+    ) -> Result<(), NoMemory>
+        requires { printed self.old.listing.asked.form (string_bytes self.old.text)
+            self.old.room ≡ [] }
+        ensures listing { self.new.listing ≡ self.old.listing }
+        ensures shown { OnOk result (Shows self.old.listing.asked.form self.old.listing.first
+            self.old.listing.widths self.old.cells frame.now.number (value_of frame.now)
+            datagram.now port outcome (string_bytes self.old.phrase)
+            (printed self.new.listing.asked.form (string_bytes self.new.text) self.new.room)) }
+    {
+        let (widths, phrase) = (self.listing.widths, self.phrase.as_str());
+        match self.listing.asked.form {
+            Form::Lines => push_line(widths, &self.cells, phrase, &mut self.text),
+            Form::Colours => {
+                let payload = datagram.payload.bytes();
+                push_coloured(
+                    outcome,
+                    port,
+                    payload,
+                    widths,
+                    &self.cells,
+                    phrase,
+                    &mut self.text,
+                )
+            }
+            Form::Objects | Form::ObjectsAlone => self.make_object(frame, datagram, port),
+        }
+    }
+
+    /// Makes the object of a frame that has this datagram of the service of this port.
+    fn make_object(
+        &mut self,
+        frame: &Frame<'_>,
+        datagram: &UdpDatagram<'_>,
+        port: u16,
+    ) -> Result<(), NoMemory>
+        ensures listing { self.new.listing ≡ self.old.listing }
+        ensures made { OnOk result (IsPacketObject frame.now.number (value_of frame.now)
+            datagram.now port self.old.listing.first self.old.cells.time
+            (string_bytes self.old.phrase) self.new.room) }
+    {
+        let room = mem::replace(&mut self.room, JsonRoom::new(self.alloc));
+        let shown = Shown {
+            first: self.listing.first,
+            time: self.cells.time.as_str(),
+            phrase: self.phrase.as_str(),
+        };
+        self.room = packet_object(frame, datagram, port, &shown, &mut self.label, room)?;
+        Ok(())
     }
 }
 

@@ -4,12 +4,18 @@
 mod asked;
 mod asking;
 mod cells;
+mod choosing;
+mod colours;
 mod command_line;
 mod counting;
 mod ends;
+mod hearing;
+mod kinds;
+mod last;
 mod lister;
 mod listing;
 mod naming;
+mod objects;
 mod output;
 mod printing;
 mod program;
@@ -24,6 +30,7 @@ mod widths;
 use crate::asked::Asked;
 use crate::asking::{AskFault, asked_of};
 use crate::command_line::command;
+use crate::kinds::WORDS;
 use crate::output::{FlushingInput, SharedOutput};
 use crate::program::run;
 use crate::signature::{SignatureInput, UNREAD};
@@ -33,7 +40,7 @@ use nb_streams::Counted;
 use std::alloc::Global;
 use std::cell::{Cell, RefCell};
 use std::fs::{File, metadata};
-use std::io::{BufWriter, Read, Write};
+use std::io::{BufWriter, IsTerminal, Read, Write};
 use std::process::ExitCode;
 use std::{env, io};
 
@@ -65,24 +72,52 @@ fn look_as(rt: &HostRuntime, matches: &ArgMatches<'_>) -> u8 {
     let Some(title) = matches.get_str("FILE") else {
         return BAD_USAGE;
     };
-    match asked_of(rt.alloc(), matches) {
+    match asked_of(rt.alloc(), matches, is_plain(rt)) {
         Ok(asked) => look_at(rt, title, asked),
         Err(AskFault::Host(word)) => misuse(
             rt,
             word,
             "no address: give one such as 10.0.0.5, or a network as 10.0.0.0/8",
         ),
+        Err(AskFault::Kind(word)) => misuse_kind(rt, word),
+        Err(AskFault::Unread(word)) => misuse(
+            rt,
+            word,
+            "a kind of packets of port 139, which aren't read yet",
+        ),
         Err(AskFault::Time(word)) => {
             misuse(rt, word, "no way to show times: give start, or utc")
         }
+        Err(AskFault::Colour(word)) => misuse(
+            rt,
+            word,
+            "no way to choose colours: give auto, always, or never",
+        ),
         Err(AskFault::NoMemory) => fail(rt, "memory ran out"),
     }
+}
+
+/// Whether standard output is no terminal, or one that is to have no colours: `NO_COLOR` isn't
+/// empty, or `TERM` is `dumb`.
+fn is_plain(rt: &HostRuntime) -> bool {
+    if !rt.stdout().is_terminal() {
+        return true;
+    }
+    let asked = env::var(rt, "NO_COLOR").is_ok_and(|word| !word.is_empty());
+    asked || env::var(rt, "TERM").is_ok_and(|word| word.as_str() == "dumb")
 }
 
 /// Says what is wrong with a word of the command line.
 fn misuse(rt: &HostRuntime, word: &str, why: &str) -> u8 {
     let mut errors = rt.stderr();
     let _ = writeln!(errors, "nbt-look: {word}: {why}");
+    BAD_USAGE
+}
+
+/// Says that a word is no kind of packets, and which kinds there are.
+fn misuse_kind(rt: &HostRuntime, word: &str) -> u8 {
+    let mut errors = rt.stderr();
+    let _ = writeln!(errors, "nbt-look: {word}: no kind: give {WORDS}");
     BAD_USAGE
 }
 

@@ -6,9 +6,9 @@ ghost use Rattle.nbt_look.specs.Listing.{nothing_listed};
 ghost use Rattle.nbt_look.specs.Printing.{IsEnding, Prints, PrintsFrame, PrintsLast, PrintsList};
 
 use crate::asked::Asked;
+use crate::last::last_of;
 use crate::lister::Lister;
 use crate::listing::Listing;
-use crate::totals::push_last;
 use nb_pcap::{FileFault, FileRoom, Frame, next_frame};
 use nb_streams::output::write_whole;
 use nb_streams::{Counted, NoMemory};
@@ -57,7 +57,7 @@ fn print_frame<W: Write>(
         writer.old.counts writer.new.counts result }
 {
     lister.make(frame)?;
-    match write_whole(writer, lister.text.as_bytes()) {
+    match write_whole(writer, lister.printed()) {
         Ok(()) => Ok(()),
         Err(_) => Err(PrintFault::Write),
     }
@@ -110,9 +110,8 @@ fn print_last<W: Write>(
     ensures { PrintsLast listing.now (W.contents writer.old.inner) (W.contents writer.new.inner)
         writer.old.counts writer.new.counts result }
 {
-    let mut text = String::new(alloc);
-    push_last(listing, &mut text)?;
-    match write_whole(writer, text.as_bytes()) {
+    let last = last_of(alloc, listing)?;
+    match write_whole(writer, last.as_slice()) {
         Ok(()) => Ok(()),
         Err(_) => Err(PrintFault::Write),
     }

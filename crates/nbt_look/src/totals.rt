@@ -1,6 +1,6 @@
 //! The last lines, which say how many frames there are, and what they have.
 ghost use Rattle.std.specs.Prelude.{◌≡◌, ◌++◌, false, OnOk, string_bytes};
-ghost use Rattle.nbt_look.specs.Totals.{last_text, lead_text, left_out_text, none_text, others_text, packets_text, plural_text, reason_text, reasons_text, shown_text, totals_text, without_text};
+ghost use Rattle.nbt_look.specs.Totals.{last_lines, lead_text, left_out_text, none_text, others_text, packets_text, plural_text, reason_text, reasons_text, shown_text, totals_text, without_text};
 ghost use Rattle.nbt_look.specs.Wanted.{wants_all};
 
 use crate::counting::{ALL, Counts, LeftOut};
@@ -146,7 +146,7 @@ fn push_without(all: bool, counts: &Counts, text: &mut String) -> Result<(), NoM
 /// Adds the last lines.
 pub fn push_last(listing: &Listing, text: &mut String) -> Result<(), NoMemory>
     ensures { OnOk result
-        (string_bytes text.new ≡ string_bytes text.old ++ last_text listing.now) }
+        (string_bytes text.new ≡ string_bytes text.old ++ last_lines listing.now) }
 {
     push_totals(listing, text)?;
     push_without(listing.asked.wanted.wants_all(), &listing.counts, text)

@@ -1,7 +1,8 @@
 //! Which packets of the list are wanted.
 ghost use Rattle.std.specs.Prelude.{◌≡◌};
-ghost use Rattle.nbt_look.specs.Wanted.{begins_as, front_bits, is_at, is_between, is_enough, is_of, is_port, wants, wants_all};
+ghost use Rattle.nbt_look.specs.Wanted.{begins_as, front_bits, is_at, is_between, is_enough, is_of, is_port, looks_inside, wants, wants_all};
 
+use crate::kinds::Kind;
 use nb_frames::{Hosts, Ports, UdpDatagram};
 use nb_streams::{Bytes, Items};
 use std::net::IpAddr;
@@ -24,6 +25,8 @@ pub struct Filter {
     pub hosts: Items<Prefix>,
     /// Packets from or to these ports, or of their services; of any, where there is none.
     pub ports: Items<u16>,
+    /// Packets of these kinds; of any, where there is none.
+    pub kinds: Items<Kind>,
     /// How many of them at most.
     pub most: Option<u64>,
 }
@@ -44,6 +47,14 @@ impl Filter {
         self.names.as_slice().is_empty()
             && self.hosts.as_slice().is_empty()
             && self.ports.as_slice().is_empty()
+            && self.kinds.as_slice().is_empty()
+    }
+
+    /// Whether it depends on what a payload has that a packet is wanted.
+    pub fn looks_inside(&self) -> bool
+        ensures { result ≡ looks_inside self.now }
+    {
+        !self.names.as_slice().is_empty() || !self.kinds.as_slice().is_empty()
     }
 
     /// Whether so many packets are as many as are wanted.

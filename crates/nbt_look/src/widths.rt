@@ -147,7 +147,7 @@ fn push_back(widths: Widths, cells: &Cells, text: &mut String) -> Result<(), NoM
 }
 
 /// Adds the columns of a line.
-fn push_columns(widths: Widths, cells: &Cells, text: &mut String) -> Result<(), NoMemory>
+pub fn push_columns(widths: Widths, cells: &Cells, text: &mut String) -> Result<(), NoMemory>
     ensures { OnOk result
         (string_bytes text.new ≡ string_bytes text.old ++ columns_text widths cells.now) }
 {

@@ -10,6 +10,9 @@ returns c =
     let name = c.in_ok-name.ensures.shape c.name_option.ensures.local ∙ ap₂ with_rule quiet c.name_option.ensures.rule in
     let host = c.in_ok-host.ensures.shape c.host_option.ensures.local ∙ ap₂ with_rule name c.host_option.ensures.rule in
     let port = c.in_ok-port.ensures.shape c.port_option.ensures.local ∙ ap₂ with_rule host c.port_option.ensures.rule in
-    let count = c.in_ok-count.ensures.shape c.count_option.ensures.local ∙ ap₂ with_rule port c.count_option.ensures.rule in
+    let kind = c.in_ok-kind.ensures.shape c.kind_option.ensures.local ∙ ap₂ with_rule port c.kind_option.ensures.rule in
+    let count = c.in_ok-count.ensures.shape c.count_option.ensures.local ∙ ap₂ with_rule kind c.count_option.ensures.rule in
     let time = c.in_ok-time.ensures.shape c.time_option.ensures.local ∙ ap₂ with_rule count c.time_option.ensures.rule in
-    c.in_ok-whole.ensures.shape c.file_word.ensures.local ∙ ap₂ with_rule time c.file_word.ensures.rule
+    let colour = c.in_ok-colour.ensures.shape c.colour_option.ensures.local ∙ ap₂ with_rule time c.colour_option.ensures.rule in
+    let json = c.in_ok-json.ensures.shape c.json_flag.ensures.local ∙ ap₂ with_rule colour c.json_flag.ensures.rule in
+    c.in_ok-whole.ensures.shape c.file_word.ensures.local ∙ ap₂ with_rule json c.file_word.ensures.rule

@@ -1,0 +1,33 @@
+-- Which packets have a line (our choice): those of the hosts and ports that are wanted, with one of the names, and of one of the kinds.
+use Rattle.std.specs.Prelude.{◌≡◌, ℕ, ◌&&◌, ◌||◌, Bool, true, false, List}
+use Rattle.nb_frames.specs.declared.carried.UdpDatagram.{UdpDatagram}
+use Rattle.nbt_look.specs.declared.counting.Outcome.{Outcome}
+use Rattle.nbt_look.specs.declared.hearing.Heard.{Heard}
+use Rattle.nbt_look.specs.declared.kinds.Heading.{Heading}
+use Rattle.nbt_look.specs.declared.wanted.Filter.{Filter}
+use Rattle.nbt_look.specs.Hearing.{IsHeard}
+use Rattle.nbt_look.specs.Kinds.{IsHeading, is_of_kinds}
+use Rattle.nbt_look.specs.Wanted.{is_any, looks_inside, wants}
+
+-- FitsInside filter payload port o is: whether a payload that came to the port, of a packet that counts so, has a name that is wanted, and is
+-- of a kind that is
+pub record FitsInside (filter : Filter) (payload : List ℕ) (port : ℕ) (o : Outcome) (is : Bool) : Type 0 where
+  pub heard : Heard
+  pub hears : IsHeard filter.names payload port heard
+  pub heading : Heading
+  pub begins : IsHeading payload port heading
+  pub fits : is ≡ ((is_any filter.names || heard.is_named) && is_of_kinds filter.kinds (record { outcome = o; heading = heading; heard = heard }))
+
+-- FitsToo inside filter payload port o is: the same, where its inside is looked at
+abbrev pub FitsToo : Bool → Filter → List ℕ → ℕ → Outcome → Bool → Type 0
+FitsToo true filter payload port o is = FitsInside filter payload port o is
+FitsToo false filter payload port o is = is ≡ true
+
+-- IsChosen fits filter payload port o is: whether a packet is wanted whose hosts and ports fit, or don't
+abbrev pub IsChosen : Bool → Filter → List ℕ → ℕ → Outcome → Bool → Type 0
+IsChosen true filter payload port o is = FitsToo (looks_inside filter) filter payload port o is
+IsChosen false filter payload port o is = is ≡ false
+
+-- IsWanted filter d port o is: whether a packet is wanted that is of the service of this port and counts so
+abbrev pub IsWanted : Filter → UdpDatagram → ℕ → Outcome → Bool → Type 0
+IsWanted filter d port o is = IsChosen (wants filter d port) filter d.payload.bytes port o is

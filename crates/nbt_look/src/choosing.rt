@@ -1,0 +1,51 @@
+//! Which packets have a line.
+ghost use Rattle.std.specs.Prelude.{IfOk};
+ghost use Rattle.nbt_look.specs.Choosing.{FitsInside, IsWanted};
+
+use crate::counting::Outcome;
+use crate::hearing::hear;
+use crate::kinds::{Marks, heading_of};
+use crate::wanted::Filter;
+use nb_frames::UdpDatagram;
+use nb_streams::NoMemory;
+use std::alloc::Global;
+
+/// Whether a packet of the service of this port, which counts so, is wanted.
+pub fn is_wanted(
+    alloc: Global,
+    filter: &Filter,
+    datagram: &UdpDatagram<'_>,
+    port: u16,
+    outcome: Outcome,
+) -> Result<bool, NoMemory>
+    ensures { IfOk result (IsWanted filter.now datagram.now port outcome) }
+{
+    if !filter.wants(datagram, port) {
+        return Ok(false);
+    }
+    if !filter.looks_inside() {
+        return Ok(true);
+    }
+    fits_inside(alloc, filter, datagram.payload.bytes(), port, outcome)
+}
+
+/// Whether a payload that came to a port, of a packet that counts so, has a name that is wanted,
+/// and is of a kind that is.
+fn fits_inside(
+    alloc: Global,
+    filter: &Filter,
+    payload: &[u8],
+    port: u16,
+    outcome: Outcome,
+) -> Result<bool, NoMemory>
+    ensures { IfOk result (FitsInside filter.now payload.now port outcome) }
+{
+    let names = filter.names.as_slice();
+    let heard = hear(alloc, names, port, payload)?;
+    let marks = Marks {
+        outcome,
+        heading: heading_of(port, payload),
+        heard,
+    };
+    Ok((names.is_empty() || heard.is_named) && marks.is_of_kinds(filter.kinds.as_slice()))
+}

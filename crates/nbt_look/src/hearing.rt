@@ -1,0 +1,178 @@
+//! What is heard of a packet whose fields are told: whether it has a name that is wanted, and what
+//! says of which kinds it is.
+ghost use Rattle.std.specs.Prelude.{◌≡◌, IfOk};
+ghost use Rattle.std.specs.List.{list_any};
+ghost use Rattle.nb_telling.specs.Texts.{names_of};
+ghost use Rattle.nbt_look.specs.Hearing.{IsHeard, has_conflict, is_in_conflict, is_status_type, sets_conflict};
+
+use crate::naming::is_wanted_name;
+use nb_streams::{Bytes, NoMemory, push_shown};
+use nb_telling::{FieldTag, Flag, Shows, Sink};
+use nb_text::tell_front;
+use std::alloc::Global;
+use std::fmt::Display;
+use std::marker::Model;
+
+/// What was heard of the fields of a packet that were told.
+#[derive(Clone, Copy, Debug, PartialEq, Eq)]
+pub struct Heard {
+    /// Whether there is a name that is wanted.
+    pub is_named: bool,
+    /// Whether a question or record is of a node's status.
+    pub status: bool,
+    /// Whether a node's status says that a name is in conflict.
+    pub conflict: bool,
+}
+
+/// A sink that hears this, where these names are wanted.
+#[derive(Drop)]
+struct HearingSink<'a> {
+    wanted: &'a [Bytes],
+    heard: Heard,
+    scratch: String,
+}
+
+impl<'a> Model for HearingSink<'a> {
+    ghost use Rattle.nbt_look.specs.Hearing.{Hearing};
+
+    ghost Value = { Hearing };
+
+    ghost view = { λ s. record { wanted = s.wanted.now; heard = s.heard } };
+}
+
+impl<'a> Sink for HearingSink<'a> {
+    type Seen = HearingSink<'a>;
+
+    ghost use Rattle.std.specs.Prelude.{⊤};
+    ghost use Rattle.nbt_look.specs.Hearing.{hears};
+
+    ghost seen = { λ sink. sink };
+
+    ghost after = { hears };
+
+    ghost is_front = { λ _ _. ⊤ };
+
+    fn text(&mut self, tag: FieldTag, value: &str) -> Result<(), NoMemory> {
+        self.heard.is_named = is_wanted_name(self.wanted, tag.name, value.as_bytes())
+            || self.heard.is_named;
+        Ok(())
+    }
+
+    fn shown<T: Shows>(&mut self, tag: FieldTag, value: &T) -> Result<(), NoMemory> {
+        self.scratch.clear();
+        value.push_to(&mut self.scratch)?;
+        self.heard.is_named = is_wanted_name(self.wanted, tag.name, self.scratch.as_bytes())
+            || self.heard.is_named;
+        Ok(())
+    }
+
+    fn displayed<D: Display + Drop>(&mut self, tag: FieldTag, value: D) -> Result<(), NoMemory> {
+        self.scratch.clear();
+        push_shown(value, &mut self.scratch)?;
+        self.heard.is_named = is_wanted_name(self.wanted, tag.name, self.scratch.as_bytes())
+            || self.heard.is_named;
+        Ok(())
+    }
+
+    fn number(&mut self, _tag: FieldTag, _value: u64) -> Result<(), NoMemory> {
+        Ok(())
+    }
+
+    fn digits(&mut self, tag: FieldTag, value: &[u8]) -> Result<(), NoMemory> {
+        self.heard.status = is_status_type(tag.name, value) || self.heard.status;
+        Ok(())
+    }
+
+    fn data(&mut self, _tag: FieldTag, _value: &[u8]) -> Result<(), NoMemory> {
+        Ok(())
+    }
+
+    fn set(&mut self, tag: FieldTag, flags: &[Flag]) -> Result<(), NoMemory> {
+        self.heard.conflict = is_in_conflict(tag.name, flags) || self.heard.conflict;
+        Ok(())
+    }
+
+    fn known(&mut self, _tag: FieldTag, _value: Option<u64>) -> Result<(), NoMemory> {
+        Ok(())
+    }
+
+    fn range(&mut self, _lead: &str, _from: u64, _to: u64) -> Result<(), NoMemory> {
+        Ok(())
+    }
+
+    fn words(&mut self, _words: &str) -> Result<(), NoMemory> {
+        Ok(())
+    }
+
+    fn at(&mut self, _place: u64) -> Result<(), NoMemory> {
+        Ok(())
+    }
+
+    fn begins(&mut self, _name: &str) -> Result<(), NoMemory> {
+        Ok(())
+    }
+
+    fn ends(&mut self) -> Result<(), NoMemory> {
+        Ok(())
+    }
+
+    fn part(&mut self, _lead: &str) -> Result<(), NoMemory> {
+        Ok(())
+    }
+
+    fn part_ends(&mut self) -> Result<(), NoMemory> {
+        Ok(())
+    }
+
+    fn line_ends(&mut self) -> Result<(), NoMemory> {
+        Ok(())
+    }
+}
+
+/// Whether digits that are told under this tag are the type of a node's status (RFC 1002 section
+/// 4.2.1.3).
+fn is_status_type(tag: &str, digits: &[u8]) -> bool
+    ensures { result ≡ is_status_type tag.now digits.now }
+{
+    tag == "type" && digits == b"\x00\x21".as_slice()
+}
+
+/// Whether flags that are told under this tag say that a node's name is in conflict (section
+/// 4.2.18).
+fn is_in_conflict(tag: &str, flags: &[Flag]) -> bool
+    ensures { result ≡ is_in_conflict tag.now (names_of flags.now) }
+{
+    tag == "set" && has_conflict(flags)
+}
+
+/// Whether the flag of a name in conflict is set.
+fn has_conflict(flags: &[Flag]) -> bool
+    ensures { result ≡ has_conflict (names_of flags.now) }
+{
+    sets_conflict(flags)
+}
+
+/// Whether one of these flags is that of a name in conflict, and set.
+fn sets_conflict(flags: &[Flag]) -> bool
+    ensures { result ≡ list_any sets_conflict flags.now }
+{
+    flags.iter().any(|flag| flag.is_set && flag.name == "CNF")
+}
+
+/// What is heard of a payload that came to a port, as far as it still stands, where these names are
+/// wanted.
+pub fn hear(alloc: Global, wanted: &[Bytes], port: u16, payload: &[u8]) -> Result<Heard, NoMemory>
+    ensures { IfOk result (IsHeard wanted.now payload.now port) }
+{
+    let mut sink = HearingSink {
+        wanted,
+        heard: Heard {
+            is_named: false,
+            status: false,
+            conflict: false,
+        },
+        scratch: String::new(alloc),
+    };
+    tell_front(port, payload, &mut sink)?;
+    Ok(sink.heard)
+}

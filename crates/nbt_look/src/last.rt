@@ -1,0 +1,90 @@
+//! What stands after the list: the counts, as lines or as an object.
+#![tactic(auto, using(nb_telling::proofs::FoldLemmas::told_both))]
+
+ghost use Rattle.std.specs.Prelude.{◌≡◌, IfOk, OnOk, fold};
+ghost use Rattle.nb_telling.specs.ObjectLines.{IsObject};
+ghost use Rattle.nbt_look.specs.Totals.{all_reasons, counts_fields, last_lines, last_text, reason_fields, reasons_fields};
+
+use crate::asked::Form;
+use crate::counting::{ALL, Counts, LeftOut};
+use crate::listing::Listing;
+use crate::objects::bare;
+use crate::totals::push_last;
+use nb_streams::{Bytes, NoMemory};
+use nb_telling::{JsonRoom, JsonSink, Sink};
+use std::alloc::Global;
+
+/// Tells how many frames a reason left out, as a part of a list.
+fn tell_reason<S: Sink>(count: u64, reason: LeftOut, sink: &mut S) -> Result<(), NoMemory>
+    ensures told { OnOk result (S.seen sink.new
+        ≡ fold S.after (S.seen sink.old) (reason_fields count reason)) }
+{
+    sink.part("")?;
+    sink.text(bare("reason"), reason.words())?;
+    sink.number(bare("frames"), count)?;
+    sink.part_ends()
+}
+
+/// Tells how many frames each of these reasons left out, where it did.
+fn tell_reasons<S: Sink>(counts: &Counts, reasons: &[LeftOut], sink: &mut S) -> Result<(), NoMemory>
+    ensures told { OnOk result (S.seen sink.new
+        ≡ fold S.after (S.seen sink.old) (reasons_fields counts.now reasons.now)) }
+{
+    for reason in reasons {
+        let count = counts.of(*reason);
+        if count != 0 {
+            tell_reason(count, *reason, sink)?;
+        }
+    }
+    Ok(())
+}
+
+/// Tells how many frames and packets there are, and what they have.
+fn tell_counts<S: Sink>(listing: &Listing, sink: &mut S) -> Result<(), NoMemory>
+    ensures told { OnOk result
+        (S.seen sink.new ≡ fold S.after (S.seen sink.old) (counts_fields listing.now)) }
+{
+    let counts = &listing.counts;
+    sink.number(bare("frames"), counts.frames)?;
+    sink.number(bare("packets"), counts.packets)?;
+    sink.number(bare("malformed"), counts.malformed)?;
+    sink.begins("left_out")?;
+    tell_reasons(counts, &ALL, sink)?;
+    sink.ends()?;
+    sink.number(bare("others"), counts.others)?;
+    sink.number(bare("shown"), listing.shown)
+}
+
+/// The object of the counts, as a line.
+fn counts_object(listing: &Listing, room: JsonRoom) -> Result<JsonRoom, NoMemory>
+    ensures { IfOk result (IsObject (counts_fields listing.now)) }
+{
+    let mut sink = JsonSink::begin(room)?;
+    tell_counts(listing, &mut sink)?;
+    let mut made = sink.end()?;
+    made.end_line()?;
+    Ok(made)
+}
+
+/// The last lines.
+fn lines_of(alloc: Global, listing: &Listing) -> Result<Bytes, NoMemory>
+    ensures { IfOk result (λ last. last ≡ last_lines listing.now) }
+{
+    let mut text = String::new(alloc);
+    push_last(listing, &mut text)?;
+    Bytes::copy(alloc, text.as_bytes())
+}
+
+/// What stands after the list, in the form that is asked for.
+pub fn last_of(alloc: Global, listing: &Listing) -> Result<Bytes, NoMemory>
+    ensures { IfOk result (λ last. last ≡ last_text listing.now) }
+{
+    match listing.asked.form {
+        Form::Lines | Form::Colours => lines_of(alloc, listing),
+        Form::Objects => {
+            let made = counts_object(listing, JsonRoom::new(alloc))?;
+            Bytes::copy(alloc, made.as_slice())
+        }
+        Form::ObjectsAlone => Bytes::copy(alloc, &[]),
+    }
+}

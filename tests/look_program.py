@@ -56,8 +56,10 @@ def main():
             part('kinds', lambda: kinds(program, captures(room)))
             part('objects', lambda: objects(program, captures(room)))
             part('colours', lambda: colours(program, captures(room)))
+            part('merged', lambda: merged_beside_mergecap(program, room, captures(room)))
         else:
             skip('tshark', "it isn't there")
+        part('several', lambda: several(program, room))
         part('prefixes', lambda: prefixes(program, room))
         part('others', lambda: others(program, room))
     return finish()
@@ -369,6 +371,53 @@ def shown_rows(program, path, words, rows):
     lines = run(program, path, words=words).stdout.decode(errors='surrogateescape').splitlines()
     numbers = {each.split()[0] for each in lines if LINE.match(each)}
     return [each for each in rows if each['frame.number'] in numbers]
+
+
+# ---- several files
+
+def merged_beside_mergecap(program, room, paths):
+    """Two or three files: the lines of what mergecap makes of them. Where an interface has no name, its number in its own file is shown, whatever
+    mergecap makes of it."""
+    random_of = random.Random(11)
+    for number in range(40):
+        chosen = [random_of.choice(paths) for _ in range(random_of.choice((2, 2, 3)))]
+        whole = f'{room}/merged-{number}'
+        done = subprocess.run(['mergecap', '-F', 'pcapng', '-w', whole, *chosen], stderr=subprocess.DEVNULL, check=False)
+        if done.returncode:
+            continue
+        given, wanted = (unmarked(run(program, each[-1], words=each[:-1])) for each in (chosen, [whole]))
+        equal(given, wanted, ' '.join(map(os.path.basename, chosen)))
+
+
+def unmarked(done):
+    """The words of each line but the last ones, without what interfaces are called."""
+    lines = done.stdout.decode(errors='surrogateescape').splitlines()
+    return [' '.join(re.sub(r'%\S+', '', each).split()) for each in lines if LINE.match(each)], [each for each in lines if COUNTS.match(each.encode(errors='replace'))]
+
+
+def several(program, room):
+    """Files side by side: whose turn it is where times are equal; one that is cut, or none, among good ones; what can't be opened."""
+    frame = ethernet(sent(137, QUERY))
+    other = ethernet(sent(137, RESPONSE))
+    one, two = (written(f'{room}/{name}', pcap([(second * 1_000_000, each, None) for second in seconds])) for name, each, seconds in (
+        ('one', frame, (1, 2, 2, 4)), ('two', other, (2, 3))))
+    said_of = lambda *words: [each.split()[4:] for each in run(program, words[-1], words=words[:-1]).stdout.decode().splitlines()[:-1]]
+    query, response = said_of(one)[0], said_of(two)[0]
+    equal(said_of(one, two), [query, response, query, query, response, query], 'of two times that are equal the later file')
+    equal(said_of(two, one), [query, query, query, response, response, query], 'the same in the other order')
+    equal(said_of('-r', one, '-r', two), said_of(one, two), '-r')
+    cut = written(f'{room}/cut', pcap([(second * 1_000_000, other, None) for second in (2, 3)])[:-1])
+    for words in ([one, cut, two], [cut, two, one]):
+        done = run(program, words[-1], words=words[:-1])
+        equal((done.stdout.splitlines()[-1], done.stderr, done.returncode), (
+            b'7 frames, 7 packets, 0 malformed, 0 left out', f'nbt-look: {cut}: cut at byte {24 + 16 + len(other)}, after frame 1\n'.encode(), 1), words)
+    empty = written(f'{room}/nothing', b'')
+    done = run(program, empty, words=[cut, one])
+    equal((len(done.stderr.splitlines()), done.stdout.splitlines()[-1][:8], done.returncode), (2, b'5 frames', 1), 'two faults')
+    for words, text, status in (([one, f'{room}/absent'], 'there is no file of this name', 3), ([one, '-'], 'several files are read by their names', 2)):
+        done = run(program, words[-1], words=words[:-1])
+        equal((done.stdout, text in done.stderr.decode(), done.returncode), (b'', True, status), words)
+    equal(len(run(program, two, words=['-c', '3', one]).stdout.splitlines()), 4, '-c 3 of two files')
 
 
 # ---- files that end early, or are none

@@ -3,3 +3,7 @@ mod PrintingLemmas
 mod TimesLemmas
 mod NamingLemmas
 mod ObjectLemmas
+mod MergingLemmas
+mod SourcesLemmas
+mod SeveralLemmas
+mod RunningLemmas

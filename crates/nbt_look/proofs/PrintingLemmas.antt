@@ -45,7 +45,7 @@ pub record IsPrinting (w : Asked) (before now : Option (List ℕ)) (calls later 
   pub grow : GrowTo calls later
   pub wrote : GrowTo writes written
 
-same_calls : (calls : Calls) → GrowTo calls calls
+pub same_calls : (calls : Calls) → GrowTo calls calls
 same_calls calls = record { empty = omega arith; interrupted = omega arith; failed = omega arith }
 
 pub begins : (asked : Asked) (known out : Option (List ℕ)) (calls writes : Calls) (file : FileValue) (listing : Listing) → file ≡ nothing_read → listing ≡ nothing_listed asked
@@ -68,7 +68,7 @@ begins asked known out calls writes file listing is listing_is = rw is (rw listi
 }))
 
 -- one frame more
-lists_more : (n k : ℕ) (fs : List FrameValue) (f : FrameValue) (old mid new : Listing) (text line : List ℕ) → ListsAll n fs old mid text
+pub lists_more : (n k : ℕ) (fs : List FrameValue) (f : FrameValue) (old mid new : Listing) (text line : List ℕ) → ListsAll n fs old mid text
     → k ≡ n + length fs → is_enough mid.asked.wanted mid.shown ≡ false → Lists k f mid new line → ListsAll n (fs ++ f ∷ []) old new (text ++ line)
 lists_more _ k _ f _ mid new _ line (none n s) at few t =
     let here : k ≡ n = omega (arith, at) in
@@ -90,7 +90,7 @@ reads_on old new before left calls later r x is same p =
 pub lent_is : (r : Result (Option Frame) FileFault) (o x : Option Frame) → r ≡ Ok o → o ≡ x → lent_frame r ≡ lent_frame (Ok x)
 lent_is r o x is also = ap lent_frame (is ∙ ap Ok also)
 
-place_on : (p q : ℕ) (rest came got : List ℕ) → p + length rest ≡ length got → q ≡ p + length (rest ++ came) → q ≡ length (got ++ came)
+pub place_on : (p q : ℕ) (rest came got : List ℕ) → p + length rest ≡ length got → q ≡ p + length (rest ++ came) → q ≡ length (got ++ came)
 place_on p q rest came got x y = omega (arith, x, y, length-append rest came, length-append got came)
 
 -- ---- a frame came
@@ -223,7 +223,7 @@ unread_longer : (calls midway later : Calls) (room : RoomValue) → GrowTo calls
 unread_longer calls midway later room g (inl h) = inl (cut_from calls midway later g h)
 unread_longer calls midway later room g (inr h) = inr h
 
-stops_longer : (c : Context) (bytes : List ℕ) (left : Option (List ℕ)) (calls midway later : Calls) (room : RoomValue) (why : FileFault) → GrowTo calls midway
+pub stops_longer : (c : Context) (bytes : List ℕ) (left : Option (List ℕ)) (calls midway later : Calls) (room : RoomValue) (why : FileFault) → GrowTo calls midway
     → Stops c bytes left midway later room why → Stops c bytes left calls later room why
 stops_longer c bytes left calls midway later room _ g (bad why is) = bad why is
 stops_longer c bytes left calls midway later room _ g (cut u at_end not_end) = cut u at_end not_end

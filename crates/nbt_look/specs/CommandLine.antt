@@ -38,9 +38,16 @@ count_rule = record (new_rule (codes "count")) {
   parser = Some (Unsigned 1 (2 ^ 64 - 1));
 }
 
--- the word FILE, which is required
-abbrev pub file_rule : Rule
-file_rule = record (new_rule (codes "FILE")) { required = true; action = Some Set }
+-- `-r FILE`, any number of times
+abbrev pub read_rule : Rule
+read_rule = record (new_rule (codes "read")) { short = Some 114; action = Some Append; value_names = 1 }
+
+-- the words FILE
+abbrev pub files_rule : Rule
+files_rule = record (new_rule (codes "FILE")) {
+  action = Some Append;
+  range = Some (record { start_inclusive = 0; end_inclusive = 18446744073709551615 });
+}
 
 -- the program has a version, and no argument
 abbrev pub top_app : App
@@ -63,10 +70,11 @@ with_filters =
 abbrev pub json_rule : Rule
 json_rule = record (new_rule (codes "json")) { long = Some (codes "json"); action = Some SetTrue }
 
--- the same with the options of how packets are shown
+-- the same with the options of how packets are shown, and of files
 abbrev pub with_options : App
-with_options = with_rule (with_rule (with_rule with_filters time_rule) colour_rule) json_rule
+with_options = with_rule (with_rule (with_rule (with_rule with_filters time_rule) colour_rule) json_rule) read_rule
 
--- the whole command line: `[--quiet] [--name TEXT].. [--host ADDRESS].. [--port PORT].. [--kind KIND,..].. [-c N] [--time WHEN] [--color WHEN] [--json] FILE`
+-- the whole command line: `[--quiet] [--name TEXT].. [--host ADDRESS].. [--port PORT].. [--kind KIND,..].. [-c N] [--time WHEN] [--color WHEN] [--json]
+-- [-r FILE].. [FILE]..`
 abbrev pub look_app : App
-look_app = with_rule with_options file_rule
+look_app = with_rule with_options files_rule

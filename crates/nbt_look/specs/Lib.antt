@@ -19,3 +19,6 @@ pub mod Hearing
 pub mod Kinds
 pub mod Colours
 pub mod Choosing
+pub mod Merging
+pub mod Sources
+pub mod Several

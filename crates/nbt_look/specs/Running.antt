@@ -10,13 +10,11 @@ use Rattle.nbt_look.specs.declared.asked.Asked.{Asked}
 use Rattle.nbt_look.specs.FaultTexts.{fault_line, status_of}
 use Rattle.nbt_look.specs.Printing.{Prints}
 
--- Reports title sort outcome before after writes written: what standard error got of this outcome: its line, a front of it where a
--- write failed, or nothing where memory ran out
-pub data Reports (title : List ℕ) (sort : Sort) (outcome : Result Ending PrintFault) (before after : Option (List ℕ)) (writes written : Calls) : Type 0 where
-  told : Appends before after (fault_line title sort outcome) → Reports title sort outcome before after writes written
-  cut_short : AppendsFront before after (fault_line title sort outcome) → ShowsWriteFault writes written
-      → Reports title sort outcome before after writes written
-  no_memory : Keeps before after → Reports title sort outcome before after writes written
+-- Tells text before after writes written: standard error got this text, a front of it where a write failed, or nothing where memory ran out
+pub data Tells (text : List ℕ) (before after : Option (List ℕ)) (writes written : Calls) : Type 0 where
+  told : Appends before after text → Tells text before after writes written
+  cut_short : AppendsFront before after text → ShowsWriteFault writes written → Tells text before after writes written
+  no_memory : Keeps before after → Tells text before after writes written
 
 -- Runs title asked bytes left calls later before after writes written errors told tells told_tells code: these bytes of a file of this title
 -- were read, of which this is asked; what was printed of them, what standard error got, and the exit status
@@ -25,5 +23,5 @@ pub record Runs (title : List ℕ) (asked : Asked) (bytes : List ℕ) (left : Op
   pub outcome : Result Ending PrintFault
   pub sort : Sort
   pub prints : Prints asked bytes left calls later before after writes written outcome
-  pub reports : Reports title sort outcome errors told tells all_told
+  pub reports : Tells (fault_line title sort outcome) errors told tells all_told
   pub status : code ≡ status_of outcome

@@ -1,7 +1,7 @@
 //! The program's command line.
 ghost use Rattle.std.specs.Prelude.{◌≡◌, IfOk, codes, false};
 ghost use Rattle.clap.specs.Words.{app_of, new_app, rule_of};
-ghost use Rattle.nbt_look.specs.CommandLine.{colour_rule, count_rule, file_rule, host_rule, json_rule, kind_rule, look_app, name_rule, port_rule, quiet_rule, repeated_rule, time_rule};
+ghost use Rattle.nbt_look.specs.CommandLine.{colour_rule, count_rule, files_rule, host_rule, json_rule, kind_rule, look_app, name_rule, port_rule, quiet_rule, read_rule, repeated_rule, time_rule};
 
 use clap::builder::ValueParser;
 use clap::{Arg, ArgAction, Command};
@@ -29,7 +29,7 @@ is shown; 2 the command line was bad; 3 the file can't be opened, a read or a wr
 memory ran out.";
 
 /// The command line: `[--quiet] [--name TEXT].. [--host ADDRESS].. [--port PORT]..
-/// [--kind KIND,..].. [-c N] [--time WHEN] [--color WHEN] [--json] FILE`.
+/// [--kind KIND,..].. [-c N] [--time WHEN] [--color WHEN] [--json] [-r FILE].. [FILE]..`.
 ///
 /// # Errors
 ///
@@ -47,7 +47,8 @@ pub fn command<'a>(alloc: Global) -> Result<Command<'a>, AllocError>
     let time = count.arg(time_option(alloc))?;
     let colour = time.arg(colour_option(alloc))?;
     let json = colour.arg(json_flag(alloc))?;
-    let whole = json.arg(file_word(alloc))?;
+    let read = json.arg(read_option(alloc))?;
+    let whole = read.arg(file_words(alloc))?;
     Ok(whole)
 }
 
@@ -168,13 +169,28 @@ fn json_flag<'a>(alloc: Global) -> Arg<'a>
         .action(ArgAction::SetTrue)
 }
 
-/// The word FILE.
-fn file_word<'a>(alloc: Global) -> Arg<'a>
-    ensures rule { rule_of result ≡ file_rule }
+/// The option `-r FILE`.
+fn read_option<'a>(alloc: Global) -> Arg<'a>
+    ensures rule { rule_of result ≡ read_rule }
+    ensures local { result.global ≡ false }
+{
+    Arg::new(alloc, "read")
+        .short('r')
+        .value_name("FILE")
+        .help("The same as FILE")
+        .action(ArgAction::Append)
+}
+
+/// The words FILE.
+fn file_words<'a>(alloc: Global) -> Arg<'a>
+    ensures rule { rule_of result ≡ files_rule }
     ensures local { result.global ≡ false }
 {
     Arg::new(alloc, "FILE")
-        .help("A pcap or pcapng file, or - for standard input")
-        .required(true)
-        .action(ArgAction::Set)
+        .help(
+            "Pcap or pcapng files, several of which are one capture, their frames in the order of \
+their times, and numbered so; or - for standard input",
+        )
+        .num_args(0..)
+        .action(ArgAction::Append)
 }

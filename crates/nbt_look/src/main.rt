@@ -1,5 +1,6 @@
 //! `nbt-look`: the NetBIOS packets of a capture file, a line for each, in words.
 #![tactic(auto)]
+ghost use Rattle.nbt_look.specs.Several.{AreUnread};
 
 mod asked;
 mod asking;
@@ -13,14 +14,18 @@ mod hearing;
 mod kinds;
 mod last;
 mod lister;
+mod laws;
 mod listing;
+mod merging;
 mod naming;
 mod objects;
 mod output;
 mod printing;
 mod program;
 mod reporting;
+mod running;
 mod signature;
+mod sources;
 mod standing;
 mod times;
 mod totals;
@@ -33,11 +38,13 @@ use crate::command_line::command;
 use crate::kinds::WORDS;
 use crate::output::{FlushingInput, SharedOutput};
 use crate::program::run;
-use crate::signature::{SignatureInput, UNREAD};
+use crate::running::run_several;
+use crate::signature::{Signature, SignatureInput, UNREAD};
+use crate::sources::{Source, sources_of};
 use clap::error::ErrorKind;
 use clap::{ArgMatches, Error};
-use nb_streams::Counted;
-use std::alloc::Global;
+use nb_streams::{Counted, NoMemory};
+use std::alloc::{AllocError, Global};
 use std::cell::{Cell, RefCell};
 use std::fs::{File, metadata};
 use std::io::{BufWriter, IsTerminal, Read, Write};
@@ -69,11 +76,11 @@ fn start(rt: &HostRuntime) -> u8 {
 
 /// Shows the file that is asked for, as it is asked for, and answers the exit status.
 fn look_as(rt: &HostRuntime, matches: &ArgMatches<'_>) -> u8 {
-    let Some(title) = matches.get_str("FILE") else {
-        return BAD_USAGE;
+    let Ok(titles) = titles_of(rt.alloc(), matches) else {
+        return fail(rt, "memory ran out");
     };
     match asked_of(rt.alloc(), matches, is_plain(rt)) {
-        Ok(asked) => look_at(rt, title, asked),
+        Ok(asked) => look_at_all(rt, titles.as_slice(), asked),
         Err(AskFault::Host(word)) => misuse(
             rt,
             word,
@@ -105,6 +112,94 @@ fn is_plain(rt: &HostRuntime) -> bool {
     }
     let asked = env::var(rt, "NO_COLOR").is_ok_and(|word| !word.is_empty());
     asked || env::var(rt, "TERM").is_ok_and(|word| word.as_str() == "dumb")
+}
+
+/// The names of files, those of `-r` first.
+fn titles_of<'a>(alloc: Global, matches: &ArgMatches<'a>) -> Result<Vec<&'a str>, AllocError> {
+    let mut titles = Vec::new(alloc);
+    titles.extend_from_slice(matches.get_strs("read").unwrap_or(&[]))?;
+    titles.extend_from_slice(matches.get_strs("FILE").unwrap_or(&[]))?;
+    Ok(titles)
+}
+
+/// Shows these files, and answers the exit status.
+fn look_at_all(rt: &HostRuntime, titles: &[&str], asked: Asked) -> u8 {
+    match titles {
+        [] => misuse(rt, "FILE", "none is given: give one, or - for standard input"),
+        [title] => look_at(rt, title, asked),
+        _ => look_at_several(rt, titles, asked),
+    }
+}
+
+/// Shows several files as one capture, and answers the exit status. Where one can't be opened, none
+/// is read.
+fn look_at_several(rt: &HostRuntime, titles: &[&str], asked: Asked) -> u8 {
+    let mut files = Vec::new(rt.alloc());
+    let mut signatures = Vec::new(rt.alloc());
+    for title in titles {
+        if *title == "-" {
+            return misuse(
+                rt,
+                title,
+                "several files are read by their names, and standard input has none",
+            );
+        }
+        let file = match opened(rt, title) {
+            Ok(file) => file,
+            Err(code) => return code,
+        };
+        if files.push(file).is_err() || signatures.push(Cell::new(UNREAD)).is_err() {
+            return fail(rt, "memory ran out");
+        }
+    }
+    match sources_of(rt.alloc(), files, signatures.as_slice()) {
+        Ok(sources) => look_side_by_side(rt, titles, asked, signatures.as_slice(), sources),
+        Err(NoMemory) => fail(rt, "memory ran out"),
+    }
+}
+
+/// Shows files that are open as one capture, and answers the exit status.
+fn look_side_by_side<R: Read + Drop>(
+    rt: &HostRuntime,
+    titles: &[&str],
+    asked: Asked,
+    signatures: &[Cell<Signature>],
+    sources: Vec<Source<R>>,
+) -> u8
+    requires { AreUnread sources.items }
+{
+    let Ok(mut output) = BufWriter::new(rt.alloc(), rt.stdout()) else {
+        return fail(rt, "memory ran out");
+    };
+    let Ok(mut errors) = BufWriter::new(rt.alloc(), rt.stderr()) else {
+        return fail(rt, "memory ran out");
+    };
+    let mut writer = Counted::new(&mut output);
+    let mut teller = Counted::new(&mut errors);
+    let mut sources = sources;
+    let code = run_several(
+        rt.alloc(),
+        titles,
+        asked,
+        signatures,
+        sources.as_mut_slice(),
+        &mut writer,
+        &mut teller,
+    );
+    let _output = writer.into_inner();
+    let _errors = teller.into_inner();
+    let flushed = output.flush();
+    // What a failed flush left is let go: it isn't written once more.
+    let (_stdout, _left) = output.into_parts();
+    let answer = match flushed {
+        Ok(()) => {
+            let _ = errors.flush();
+            code
+        }
+        Err(_) => fail(rt, "standard output can't be written"),
+    };
+    let (_stderr, _unwritten) = errors.into_parts();
+    answer
 }
 
 /// Says what is wrong with a word of the command line.
@@ -161,14 +256,22 @@ fn look_at(rt: &HostRuntime, title: &str, asked: Asked) -> u8 {
     if title == "-" {
         return look(rt, "standard input", asked, rt.stdin());
     }
+    match opened(rt, title) {
+        Ok(file) => look(rt, title, asked, file),
+        Err(code) => code,
+    }
+}
+
+/// Opens a file; where it can't be opened, says why, and answers the exit status.
+fn opened(rt: &HostRuntime, title: &str) -> Result<File, u8> {
     if let Ok(found) = metadata(rt, title) {
         if found.is_dir() {
-            return fail_at(rt, title, "it is a directory: give a file of it");
+            return Err(fail_at(rt, title, "it is a directory: give a file of it"));
         }
     }
     match File::open(rt, title) {
-        Ok(file) => look(rt, title, asked, file),
-        Err(error) => unopened(rt, title, &error),
+        Ok(file) => Ok(file),
+        Err(error) => Err(unopened(rt, title, &error)),
     }
 }
 

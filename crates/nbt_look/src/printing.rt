@@ -64,7 +64,7 @@ fn print_frame<W: Write>(
 }
 
 /// How the reading of a file ended that has this fault.
-fn stopped(file: &FileRoom, fault: FileFault) -> Ending
+pub(crate) fn stopped(file: &FileRoom, fault: FileFault) -> Ending
     ensures { IsEnding file.now fault result }
 {
     Ending::Stopped(fault, file.frames(), file.place())
@@ -102,7 +102,7 @@ fn print_list<R: Read, W: Write>(
 }
 
 /// Prints the last lines, with the counts.
-fn print_last<W: Write>(
+pub(crate) fn print_last<W: Write>(
     alloc: Global,
     listing: &Listing,
     writer: &mut Counted<W>,

@@ -1,7 +1,8 @@
 //! The program over any input and output.
 ghost use Rattle.std.specs.Prelude.{ℕ, List};
 ghost use Rattle.std.specs.Io.KnownBytes.{Consumes};
-ghost use Rattle.nbt_look.specs.Running.{Reports, Runs};
+ghost use Rattle.nbt_look.specs.FaultTexts.{fault_line};
+ghost use Rattle.nbt_look.specs.Running.{Runs, Tells};
 
 use crate::asked::Asked;
 use crate::printing::{Ending, PrintFault, print_file};
@@ -52,7 +53,7 @@ fn report<E: Write>(
     outcome: Result<Ending, PrintFault>,
     errors: &mut Counted<E>,
 )
-    ensures { Reports title.now sort outcome (E.contents errors.old.inner)
+    ensures { Tells (fault_line title.now sort outcome) (E.contents errors.old.inner)
         (E.contents errors.new.inner) errors.old.counts errors.new.counts }
 {
     let mut line = String::new(alloc);

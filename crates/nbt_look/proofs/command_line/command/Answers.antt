@@ -15,4 +15,5 @@ returns c =
     let time = c.in_ok-time.ensures.shape c.time_option.ensures.local ∙ ap₂ with_rule count c.time_option.ensures.rule in
     let colour = c.in_ok-colour.ensures.shape c.colour_option.ensures.local ∙ ap₂ with_rule time c.colour_option.ensures.rule in
     let json = c.in_ok-json.ensures.shape c.json_flag.ensures.local ∙ ap₂ with_rule colour c.json_flag.ensures.rule in
-    c.in_ok-whole.ensures.shape c.file_word.ensures.local ∙ ap₂ with_rule json c.file_word.ensures.rule
+    let read = c.in_ok-read.ensures.shape c.read_option.ensures.local ∙ ap₂ with_rule json c.read_option.ensures.rule in
+    c.in_ok-whole.ensures.shape c.file_words.ensures.local ∙ ap₂ with_rule read c.file_words.ensures.rule

@@ -1,0 +1,27 @@
+use Rattle.std.proofs.Common.{get_or, sym, ◌∙◌}
+use Rattle.std.proofs.lemmas.Option.{slice_get-get_or}
+use Rattle.nbt_look.proofs.SeveralLemmas.{begins, filled, next_printed, not_printed, prints_ended}
+use Rattle.nbt_look.proofs.merging.print_merged.Goals as goal
+
+pub frames-init : goal.frames-init
+frames-init g c = begins _ _ _ _ _ c.requires.listed c.requires.unread
+
+pub returns-in_default : goal.returns-in_default
+returns-in_default g c =
+    prints_ended _ _ _ _ _ _ _ _ _
+    (filled _ _ _ _ _ _ _ _ _ _ c.frames.invariant c.next_source.auto.sources c.in_default.ensures.filled) c.in_default.ensures.first
+
+pub frames-preserved : goal.frames-preserved
+frames-preserved g c =
+    next_printed _ _ _ _ _ _ _ _ _ _ _ _ _ (get_or c.next_source.new.sources c.in-Some.at c.index-sources-at.result) _
+    (filled _ _ _ _ _ _ _ _ _ _ c.frames.invariant c.next_source.auto.sources c.in-Some.ensures.filled) c.in-Some.ensures.first
+    (slice_get-get_or c.next_source.new.sources c.in-Some.at c.index-sources-at.result c.in-Some.ensures.within)
+    (sym c.is_enough.ensures ∙ c.if-is_enough.false) c.in-Ok.ensures.given c.in-Ok.ensures.prints
+
+pub returns-in-Err : goal.returns-in-Err
+returns-in-Err g c =
+    not_printed _ _ _ _ _ c.print_next.new.lister.listing c.print_next.new.lister.listing _ _ (g.W.Write.contents c.print_next.new.writer.inner) _ _
+    c.print_next.new.writer.counts _ (get_or c.next_source.new.sources c.in-Some.at c.index-sources-at.result) _ c.in-Err.fault
+    (filled _ _ _ _ _ _ _ _ _ _ c.frames.invariant c.next_source.auto.sources c.in-Some.ensures.filled) c.in-Some.ensures.first
+    (slice_get-get_or c.next_source.new.sources c.in-Some.at c.index-sources-at.result c.in-Some.ensures.within)
+    (sym c.is_enough.ensures ∙ c.if-is_enough.false) c.in-Err.ensures.given c.in-Err.ensures.prints

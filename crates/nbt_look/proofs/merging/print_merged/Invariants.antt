@@ -1,0 +1,11 @@
+use Rattle.std.proofs.Common.{◌-◌, ◌^◌}
+use Rattle.nbt_look.proofs.SeveralLemmas.{IsMerging}
+use Rattle.nbt_look.proofs.merging.print_merged.Given as goal
+
+abbrev pub invariant-frames : goal.invariant-frames
+invariant-frames g l =
+    IsMerging l.fn.lister.listing.asked l.fn.sources l.sources l.number l.lister.listing
+    (g.W.Write.contents l.fn.writer.inner) (g.W.Write.contents l.writer.inner) l.fn.writer.counts l.writer.counts
+
+abbrev pub decreases-frames : goal.decreases-frames
+decreases-frames g l = 2 ^ 64 - l.number

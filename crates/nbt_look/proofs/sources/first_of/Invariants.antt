@@ -1,0 +1,5 @@
+use Rattle.nbt_look.proofs.SourcesLemmas.{IsBest}
+use Rattle.nbt_look.proofs.sources.first_of.Given as goal
+
+abbrev pub invariant-loop-at : goal.invariant-loop-at
+invariant-loop-at g l = IsBest l.sources l.at l.first

@@ -1,0 +1,149 @@
+-- What is printed of several capture files as one: the list of their frames by time, as far as they can be read, and then the counts (our choice).
+use Rattle.std.specs.Prelude.{◌≡◌, ◌⊎◌, ◌-◌, ◌^◌, ◌++◌, ℕ, true, List, [], ◌∷◌, length, fold, slice_get, Option, Some, None, Result, Ok, Err, max}
+use Rattle.std.specs.Borrow.{Bor}
+use Rattle.std.specs.Io.KnownBytes.{Appends}
+use Rattle.nb_streams.specs.Counted.{Counts as Calls}
+use Rattle.nb_streams.specs.declared.bytes.NoMemory.{NoMemory as Refused}
+use Rattle.nb_streams.specs.Devices.{AppendsFront, GrowTo, ShowsWriteFault}
+use Rattle.nb_pcap.specs.Frame.{FrameValue}
+use Rattle.nb_pcap.specs.Reading.{Numbered, last_of}
+use Rattle.nbt_look.specs.declared.printing.Ending.{Ending}
+use Rattle.nbt_look.specs.declared.printing.Ending.TheVariants.{Enough}
+use Rattle.nbt_look.specs.declared.printing.PrintFault.{PrintFault}
+use Rattle.nbt_look.specs.declared.printing.PrintFault.TheVariants.{Write, NoMemory}
+use Rattle.nbt_look.specs.declared.sources.Waiting.{Waiting}
+use Rattle.nbt_look.specs.declared.sources.Waiting.TheVariants.{Unread, Frame, Ended}
+use Rattle.nbt_look.specs.declared.signature.Sort.{Sort}
+use Rattle.nbt_look.specs.declared.signature.Sort.TheVariants.{Other}
+use Rattle.nbt_look.specs.declared.listing.Listing.{Listing}
+use Rattle.nbt_look.specs.declared.asked.Asked.{Asked}
+use Rattle.nbt_look.specs.FaultTexts.{fault_line, status_of}
+use Rattle.nbt_look.specs.Listing.{Lists, ListsAll, nothing_listed}
+use Rattle.nbt_look.specs.Merging.{Merges, with_more}
+use Rattle.nbt_look.specs.Running.{Tells}
+use Rattle.nbt_look.specs.Sources.{AreRead, SourceValue, given, held_of, unread}
+use Rattle.nbt_look.specs.Totals.{last_text}
+use Rattle.nbt_look.specs.Wanted.{is_enough}
+
+-- nothing was read of these files
+abbrev pub AreUnread : List SourceValue → Type 0
+AreUnread sources = (i : ℕ) (s : SourceValue) → slice_get sources i ≡ Some s → s ≡ unread s.known
+
+-- MayGive waiting more: these may be the frames that a file has beside those that were read: none where it was read to its end
+abbrev pub MayGive : Waiting → List FrameValue → Type 0
+MayGive Unread more = Unit
+MayGive (Frame time) more = Unit
+MayGive (Ended ending) more = more ≡ []
+
+abbrev pub MayGiveOf : Option SourceValue → List FrameValue → Type 0
+MayGiveOf None more = more ≡ []
+MayGiveOf (Some s) more = MayGive s.waiting more
+
+-- the frames that the files have to give
+abbrev pub held : List SourceValue → ℕ → List FrameValue
+held sources i = held_of (slice_get sources i)
+
+-- MergesOn sources frames merged: these are the first frames of the merge, whatever frames the files have beside those that were read
+abbrev pub MergesOn : List SourceValue → (ℕ → List FrameValue) → List FrameValue → Type 0
+MergesOn sources frames merged =
+    (more : ℕ → List FrameValue) → ((i : ℕ) → MayGiveOf (slice_get sources i) (more i))
+    → Merges (with_more frames (with_more (held sources) more)) merged (with_more (held sources) more)
+
+-- AreListed w olds news new text merged: these frames, the first of the merge of what was read of the files, have this text, and `new` stands
+pub record AreListed (w : Asked) (olds news : List SourceValue) (new : Listing) (text : List ℕ) (merged : List FrameValue) : Type 0 where
+  pub frames : ℕ → List FrameValue
+  pub reads : AreRead olds news frames
+  pub merges : MergesOn news frames merged
+  pub lists : ListsAll 1 merged (nothing_listed w) new text
+
+-- AllEnded sources: each file was read to its end
+abbrev pub HasEnded : Waiting → Type 0
+HasEnded Unread = ⊥
+HasEnded (Frame time) = ⊥
+HasEnded (Ended ending) = Unit
+
+abbrev pub AllEnded : List SourceValue → Type 0
+AllEnded sources = (i : ℕ) (s : SourceValue) → slice_get sources i ≡ Some s → HasEnded s.waiting
+
+-- IsDone news new merged: all files are at their ends, or there are as many lines as are wanted, or as many frames as 64 bits count
+abbrev pub IsDone : List SourceValue → Listing → List FrameValue → Type 0
+IsDone news new merged = AllEnded news ⊎ ((is_enough new.asked.wanted new.shown ≡ true) ⊎ (length merged ≡ 2 ^ 64 - 1))
+
+-- ---- one frame
+
+-- GivenAt result old new: the file has given its frame, but for one of which no text was made
+abbrev pub GivenAt : Result Unit PrintFault → SourceValue → SourceValue → Type 0
+GivenAt (Ok done) old new = new ≡ given old
+GivenAt (Err Write) old new = new ≡ given old
+GivenAt (Err NoMemory) old new = new ≡ old
+
+-- GivesTo n old new before after text result: the text of the frame that a file has to give was made, as that of frame n
+abbrev pub GivesTo : ℕ → SourceValue → SourceValue → Listing → Listing → List ℕ → Result Unit Refused → Type 0
+GivesTo n old new before after text (Ok done) =
+    (new ≡ given old) × ((found : Numbered) → last_of old.file ≡ Some found → Lists n found.frame before after text)
+GivesTo n old new before after text (Err why) = new ≡ old
+
+-- ---- the list
+
+-- PrintsMerged w olds news before after writes written new result: what was printed of the list of these files: at a fault of a write a front
+-- of the lines of some first frames, where memory ran out the lines of some first frames
+abbrev pub PrintsMerged : Asked → List SourceValue → List SourceValue → Option (List ℕ) → Option (List ℕ) → Calls → Calls → Listing → Result Unit PrintFault → Type 0
+PrintsMerged w olds news before after writes written new (Ok done) =
+    (text : List ℕ) × (merged : List FrameValue) × AreListed w olds news new text merged × IsDone news new merged
+    × Appends before after text × GrowTo writes written
+PrintsMerged w olds news before after writes written new (Err Write) =
+    (s : Listing) × (text : List ℕ) × (merged : List FrameValue) × AreListed w olds news s text merged
+    × AppendsFront before after text × ShowsWriteFault writes written
+PrintsMerged w olds news before after writes written new (Err NoMemory) =
+    (s : Listing) × (text : List ℕ) × (merged : List FrameValue) × AreListed w olds news s text merged × Appends before after text
+
+-- ---- the list and the last lines
+
+-- PrintsSeveral w olds news before after writes written result: what was printed of these files
+abbrev pub PrintsSeveral : Asked → List SourceValue → List SourceValue → Option (List ℕ) → Option (List ℕ) → Calls → Calls → Result Unit PrintFault → Type 0
+PrintsSeveral w olds news before after writes written (Ok done) =
+    (new : Listing) × (text : List ℕ) × (merged : List FrameValue) × AreListed w olds news new text merged × IsDone news new merged
+    × Appends before after (text ++ last_text new)
+PrintsSeveral w olds news before after writes written (Err Write) =
+    (s : Listing) × (text : List ℕ) × (merged : List FrameValue) × AreListed w olds news s text merged
+    × (AppendsFront before after text ⊎ (IsDone news s merged × AppendsFront before after (text ++ last_text s))) × ShowsWriteFault writes written
+PrintsSeveral w olds news before after writes written (Err NoMemory) =
+    (s : Listing) × (text : List ℕ) × (merged : List FrameValue) × AreListed w olds news s text merged × Appends before after text
+
+-- ---- faults
+
+-- how the reading of a file ended, where it did
+abbrev pub ending_in : Waiting → Ending
+ending_in Unread = Enough
+ending_in (Frame time) = Enough
+ending_in (Ended ending) = ending
+
+-- faults_text titles sorts sources: the line of each file that couldn't be read to its end
+abbrev pub faults_text : List (Bor (List ℕ)) → List Sort → List SourceValue → List ℕ
+faults_text (title ∷ titles) (sort ∷ sorts) (s ∷ sources) =
+    fault_line title.now sort (Ok (ending_in s.waiting)) ++ faults_text titles sorts sources
+faults_text titles sorts sources = []
+
+-- several_text titles sorts sources outcome: what is said of faults
+abbrev pub several_text : List (Bor (List ℕ)) → List Sort → List SourceValue → Result Unit PrintFault → List ℕ
+several_text titles sorts sources (Ok done) = faults_text titles sorts sources
+several_text titles sorts sources (Err why) = fault_line [] Other (Err why)
+
+-- the greater of a status and that of a file
+abbrev pub worse : ℕ → SourceValue → ℕ
+worse status s = max status (status_of (Ok (ending_in s.waiting)))
+
+-- the exit status
+abbrev pub several_status : List SourceValue → Result Unit PrintFault → ℕ
+several_status sources (Ok done) = fold worse 0 sources
+several_status sources (Err why) = status_of (Err why)
+
+-- RunsSeveral titles asked olds news before after writes written errors told tells all_told code: files of these titles were read, of which this
+-- is asked; what was printed of them, what standard error got, and the exit status
+pub record RunsSeveral (titles : List (Bor (List ℕ))) (asked : Asked) (olds news : List SourceValue) (before after : Option (List ℕ)) (writes written : Calls)
+    (errors told : Option (List ℕ)) (tells all_told : Calls) (code : ℕ) : Type 0 where
+  pub outcome : Result Unit PrintFault
+  pub sorts : List Sort
+  pub prints : PrintsSeveral asked olds news before after writes written outcome
+  pub reports : Tells (several_text titles sorts news outcome) errors told tells all_told
+  pub status : code ≡ several_status news outcome

@@ -7,3 +7,4 @@ mod MergingLemmas
 mod SourcesLemmas
 mod SeveralLemmas
 mod RunningLemmas
+mod ColourLemmas

@@ -1,5 +1,5 @@
 -- The objects that are printed of packets and counts.
-use Rattle.std.proofs.Common.{◌≡◌, ◌≤◌, ℕ, suc, Bool, true, false, List, [], ◌∷◌, ◌++◌, Option, None, Some, cond, fold, flat_map, nat_eq, length, append_assoc, arith, codes, subst}
+use Rattle.std.proofs.Common.{◌≡◌, ◌≤◌, ℕ, Bool, true, false, List, [], ◌∷◌, ◌++◌, Option, None, Some, cond, fold, flat_map, nat_eq, length, append_assoc, ap, arith, codes, refl, subst, sym, ◌∙◌}
 use Rattle.json.specs.Token.{Token, begin_object, end_object}
 use Rattle.json.specs.Print.{print}
 use Rattle.nb_frames.specs.declared.carried.UdpDatagram.{UdpDatagram}
@@ -7,13 +7,14 @@ use Rattle.nb_frames.specs.declared.contents.Mac.{Mac}
 use Rattle.nb_frames.specs.Link.{link_of, receiver_of, sender_of, vlans_of}
 use Rattle.nb_frames.specs.Payload.{PayloadValue}
 use Rattle.nb_pcap.specs.Frame.{FrameValue}
-use Rattle.nb_telling.specs.Telling.{Begins, Ends, Field, Known, Number, Part, PartEnds, Text}
-use Rattle.nb_telling.specs.Members.{AreMembers, AreParts, IsJson, IsMember, both, list, member, no_part, nothing, part, parts}
+use Rattle.nb_telling.specs.Telling.{Begins, Ends, Field, Number, Text}
+use Rattle.nb_telling.specs.Members.{AreMembers, AreParts, IsJson, IsMember, both, list, member, no_part, part, parts}
 use Rattle.nb_telling.specs.ObjectLines.{IsObject}
 use Rattle.nb_telling.specs.Tokens.{tokens_of}
 use Rattle.nb_telling.proofs.FoldLemmas.{and_then}
 use Rattle.nb_telling.proofs.ObjectLemmas.{adds, told_object}
-use Rattle.nb_text.specs.TellsFront.{TellsFront}
+use Rattle.nb_text.specs.TellsFront.{IsFrontTold, TellsFront}
+use Rattle.nb_text.proofs.SaysLemmas.{singles}
 use Rattle.nbt_look.specs.declared.counting.Counts.{Counts}
 use Rattle.nbt_look.specs.declared.counting.LeftOut.{LeftOut as Why}
 use Rattle.nbt_look.specs.declared.counting.LeftOut.TheVariants as why
@@ -22,62 +23,106 @@ use Rattle.nbt_look.specs.declared.standing.Standing.{Standing}
 use Rattle.nbt_look.specs.declared.standing.Standing.TheVariants.{Whole, Cut, BadLength}
 use Rattle.nbt_look.specs.Bare.{bare_tag}
 use Rattle.nbt_look.specs.Counting.{count_of}
-use Rattle.nbt_look.specs.Ends.{is_no_name}
-use Rattle.nbt_look.specs.Objects.{IsPacketObject, TellsCut, TellsStanding, arrival_fields, end_fields, frame_fields, head_fields, interface_field, left_out_field, link_fields, mac_field, moment_of, size_fields, time_field, vlan_fields, vlans_fields}
+use Rattle.nbt_look.specs.Ends.{is_no_name, shown_byte}
+use Rattle.nbt_look.specs.Objects.{IsPacketObject, TellsCut, TellsStanding, arrival_fields, column_fields, cut_field, end_fields, frame_fields, head_fields, interface_field, left_out_field, link_fields, mac_field, moment_of, size_fields, time_field, unknown, vlan_fields, vlans_fields}
 use Rattle.nbt_look.specs.Standing.{standing_of}
-use Rattle.nbt_look.specs.Totals.{all_reasons, counts_fields, reason_fields, reasons_fields}
+use Rattle.nbt_look.specs.Totals.{all_reasons, counts_fields, reason_fields, reasons_fields, words_of}
 
--- one member, and then others
-then : {depth : ℕ} (field : Field) (fields : List Field) → IsMember field → AreMembers depth fields → AreMembers depth (field ∷ fields)
-then field fields is others = both (field ∷ []) fields (member field is) others
+time_members : {depth : ℕ} (at : Option ℕ) (shown : List ℕ) → AreMembers depth (time_field at shown ∷ [])
+time_members None shown = singles (time_field None shown ∷ []) _
+time_members (Some at) shown = singles (time_field (Some at) shown ∷ []) _
 
-time_is : (at : Option ℕ) (shown : List ℕ) → IsMember (time_field at shown)
-time_is None shown = tt
-time_is (Some at) shown = tt
+either_member : {depth : ℕ} (first : Bool) (x y : Field) → IsMember x → IsMember y → AreMembers depth (cond first x y ∷ [])
+either_member true x y a b = member x a
+either_member false x y a b = member y b
 
-named_is : (none : Bool) (x y : Field) → IsMember x → IsMember y → IsMember (cond none x y)
-named_is true x y a b = a
-named_is false x y a b = b
+interface_members : {depth : ℕ} (name : Option (List ℕ)) → AreMembers depth (interface_field name ∷ [])
+interface_members None = singles (interface_field None ∷ []) _
+interface_members (Some name) =
+    either_member (is_no_name name) (unknown (codes "interface")) (Text (bare_tag (codes "interface")) (flat_map shown_byte name)) _ _
 
-interface_is : (name : Option (List ℕ)) → IsMember (interface_field name)
-interface_is None = tt
-interface_is (Some name) = named_is (is_no_name name) _ _ tt tt
-
-mac_is : (name : List ℕ) (mac : Option Mac) → IsMember (mac_field name mac)
-mac_is name None = tt
-mac_is name (Some mac) = tt
+mac_members : {depth : ℕ} (name : List ℕ) (mac : Option Mac) → AreMembers depth (mac_field name mac ∷ [])
+mac_members name None = singles (mac_field name None ∷ []) _
+mac_members name (Some mac) = singles (mac_field name (Some mac) ∷ []) _
 
 vlans_are : {depth : ℕ} (ids : List ℕ) → AreParts depth (flat_map vlan_fields ids)
 vlans_are [] = no_part
-vlans_are (id ∷ ids) = parts (vlan_fields id) (flat_map vlan_fields ids) (part [] (Number _ id ∷ []) (member (Number _ id) tt)) (vlans_are ids)
+vlans_are (id ∷ ids) =
+    let number = Number (bare_tag (codes "id")) id in
+    parts (vlan_fields id) (flat_map vlan_fields ids) (part [] (number ∷ []) (singles (number ∷ []) _)) (vlans_are ids)
 
-link_members : {depth : ℕ} (f : FrameValue) → AreMembers (suc depth) (link_fields f)
+link_members : (f : FrameValue) → AreMembers 2 (link_fields f)
 link_members f =
     let ids = vlans_of (link_of f.link) f.bytes in
-    let from = sender_of (link_of f.link) f.bytes in
-    let to = receiver_of (link_of f.link) f.bytes in
-    both (vlans_fields ids) _ (list _ (flat_map vlan_fields ids) (vlans_are ids)) (then _ _ (mac_is _ from) (then _ _ (mac_is _ to) nothing))
+    let from = mac_field (codes "from_mac") (sender_of (link_of f.link) f.bytes) in
+    let to = mac_field (codes "to_mac") (receiver_of (link_of f.link) f.bytes) in
+    both (vlans_fields ids) (from ∷ to ∷ []) (list (codes "vlans") (flat_map vlan_fields ids) (vlans_are ids))
+    (both (from ∷ []) (to ∷ []) (mac_members (codes "from_mac") (sender_of (link_of f.link) f.bytes))
+    (mac_members (codes "to_mac") (receiver_of (link_of f.link) f.bytes)))
 
-head_members : {depth : ℕ} (n : ℕ) (f : FrameValue) (d : UdpDatagram) (port : ℕ) (first : Option ℕ) (shown phrase : List ℕ)
-    → AreMembers (suc depth) (head_fields n f d port first shown phrase)
+column_members : {depth : ℕ} (n : ℕ) (f : FrameValue) (shown : List ℕ) (d : UdpDatagram) → AreMembers depth (column_fields n f shown d)
+column_members n f shown d =
+    let number = Number (bare_tag (codes "frame")) n in
+    let ends = end_fields d ++ interface_field f.name ∷ [] in
+    both (number ∷ []) (time_field f.time shown ∷ ends) (singles (number ∷ []) _)
+    (both (time_field f.time shown ∷ []) ends (time_members f.time shown)
+    (both (end_fields d) (interface_field f.name ∷ []) (singles (end_fields d) _) (interface_members f.name)))
+
+head_members : (n : ℕ) (f : FrameValue) (d : UdpDatagram) (port : ℕ) (first : Option ℕ) (shown phrase : List ℕ)
+    → AreMembers 2 (head_fields n f d port first shown phrase)
 head_members n f d port first shown phrase =
-    both (frame_fields n f shown d) (arrival_fields port (moment_of first f.time) phrase)
-    (then _ _ tt (then _ _ (time_is f.time shown)
-    (both (end_fields d) _ (then _ _ tt (then _ _ tt (then _ _ tt (then _ _ tt nothing))))
-    (then _ _ (interface_is f.name)
-    (both (link_fields f) (size_fields f) (link_members f) (then _ _ tt (then _ _ tt nothing)))))))
-    (then _ _ tt (then _ _ tt (then _ _ tt nothing)))
+    let arrival = arrival_fields port (moment_of first f.time) phrase in
+    both (frame_fields n f shown d) arrival
+    (both (column_fields n f shown d) (link_fields f ++ size_fields f) (column_members n f shown d)
+    (both (link_fields f) (size_fields f) (link_members f) (singles (size_fields f) _)))
+    (singles arrival _)
 
 cut_members : (is_empty : Bool) (payload : PayloadValue) (port : ℕ) (fields : List Field)
     → ((p : List ℕ) (n : ℕ) (fs : List Field) → TellsFront p n fs → AreMembers 2 fs) → TellsCut is_empty payload port fields → AreMembers 2 fields
-cut_members true payload port fields law is = rw is (member _ tt)
-cut_members false payload port fields law t = rw t.2 (then _ t.0 tt (law payload.bytes port t.0 t.1))
+cut_members true payload port fields law is = rw is (singles (left_out_field why.Cut ∷ []) _)
+cut_members false payload port fields law t =
+    rw t.2 (both (cut_field payload ∷ []) t.0 (singles (cut_field payload ∷ []) _) (law payload.bytes port t.0 t.1))
 
 standing_members : (standing : Standing) (payload : PayloadValue) (port : ℕ) (fields : List Field)
     → ((p : List ℕ) (n : ℕ) (fs : List Field) → TellsFront p n fs → AreMembers 2 fs) → TellsStanding standing payload port fields → AreMembers 2 fields
 standing_members Whole payload port fields law t = law payload.bytes port fields t
 standing_members Cut payload port fields law t = cut_members (nat_eq (length payload.bytes) 0) payload port fields law t
-standing_members BadLength payload port fields law is = rw is (member _ tt)
+standing_members BadLength payload port fields law is = rw is (singles (left_out_field why.BadLength ∷ []) _)
+
+-- ---- what is told
+
+-- what the link layer says
+pub link_told : {S : Type 0} (after : S → Field → S) (s0 s1 s2 s3 : S) (f : FrameValue) (ids : List ℕ) (from to : Option Mac)
+    → ids ≡ vlans_of (link_of f.link) f.bytes → from ≡ sender_of (link_of f.link) f.bytes → to ≡ receiver_of (link_of f.link) f.bytes
+    → s1 ≡ fold after s0 (vlans_fields ids) → s2 ≡ after s1 (mac_field (codes "from_mac") from) → s3 ≡ after s2 (mac_field (codes "to_mac") to)
+    → s3 ≡ fold after s0 (link_fields f)
+link_told {S} after s0 s1 s2 s3 f ids from to ids_are from_is to_is first second third =
+    let macs : List Field = mac_field (codes "from_mac") from ∷ mac_field (codes "to_mac") to ∷ [] in
+    let both_macs : s3 ≡ fold after s1 macs = third ∙ ap (λ (s : S). after s (mac_field (codes "to_mac") to)) second in
+    and_then after s0 (vlans_fields ids) macs first both_macs
+    ∙ ap (λ (xs : List ℕ). fold after s0 (vlans_fields xs ++ macs)) ids_are
+    ∙ ap (λ (m : Option Mac). fold after s0 (vlans_fields (vlans_of (link_of f.link) f.bytes) ++ mac_field (codes "from_mac") m ∷ mac_field (codes "to_mac") to ∷ [])) from_is
+    ∙ ap (λ (m : Option Mac). fold after s0 (vlans_fields (vlans_of (link_of f.link) f.bytes)
+    ++ mac_field (codes "from_mac") (sender_of (link_of f.link) f.bytes) ∷ mac_field (codes "to_mac") m ∷ [])) to_is
+
+-- of a payload that is cut, where no byte of it is held, or some are
+pub cut_left_out : {S : Type 0} (after : S → Field → S) (old new : S) (payload : PayloadValue) (port : ℕ) → nat_eq (length payload.bytes) 0 ≡ true
+    → new ≡ after old (left_out_field why.Cut)
+    → (fields : List Field) × TellsStanding Cut payload port fields × (new ≡ fold after old fields)
+cut_left_out after old new payload port nothing is = (
+  left_out_field why.Cut ∷ [],
+  subst (λ (b : Bool). TellsCut b payload port (left_out_field why.Cut ∷ [])) (sym nothing) refl,
+  is,
+)
+
+pub cut_told : {S : Type 0} (after : S → Field → S) (old mid new : S) (payload : PayloadValue) (port : ℕ) → nat_eq (length payload.bytes) 0 ≡ false
+    → mid ≡ after old (cut_field payload) → IsFrontTold after payload.bytes port mid new
+    → (fields : List Field) × TellsStanding Cut payload port fields × (new ≡ fold after old fields)
+cut_told {S} after old mid new payload port some first told = (
+  cut_field payload ∷ told.fields,
+  subst (λ (b : Bool). TellsCut b payload port (cut_field payload ∷ told.fields)) (sym some) (told.fields, told.tells, refl),
+  told.seen ∙ ap (λ (s : S). fold after s told.fields) first,
+)
 
 -- the object of a packet
 pub object_made : (n : ℕ) (f : FrameValue) (d : UdpDatagram) (port : ℕ) (first : Option ℕ) (shown phrase : List ℕ) (begun framed arrived told : List Token)
@@ -101,7 +146,8 @@ object_made n f d port first shown phrase begun framed arrived told ended made l
 -- ---- the counts
 
 reason_part : {depth : ℕ} (count : ℕ) (w : Why) → AreParts depth (reason_fields count w)
-reason_part count w = part [] (Text _ _ ∷ Number _ count ∷ []) (then _ _ tt (then _ _ tt nothing))
+reason_part count w =
+    let members = Text (bare_tag (codes "reason")) (words_of w) ∷ Number (bare_tag (codes "frames")) count ∷ [] in part [] members (singles members _)
 
 reason_parts : {depth : ℕ} (none : Bool) (c : Counts) (w : Why) (others : List Field) → AreParts depth others
     → AreParts depth (cond none others (reason_fields (count_of w c) w ++ others))
@@ -114,12 +160,13 @@ reasons_parts c (w ∷ ws) = reason_parts (nat_eq (count_of w c) 0) c w (reasons
 
 counts_members : (l : Listing) → AreMembers 1 (counts_fields l)
 counts_members l =
-    let ps = reasons_fields l.counts all_reasons in
+    let before = Number (bare_tag (codes "frames")) l.counts.frames ∷ Number (bare_tag (codes "packets")) l.counts.packets
+        ∷ Number (bare_tag (codes "malformed")) l.counts.malformed ∷ [] in
+    let begun = Begins (codes "left_out") ∷ reasons_fields l.counts all_reasons in
     let behind = Number (bare_tag (codes "others")) l.counts.others ∷ Number (bare_tag (codes "shown")) l.shown ∷ [] in
-    then _ _ tt (then _ _ tt (then _ _ tt
-    (subst (AreMembers 1) (append_assoc (Begins (codes "left_out") ∷ ps) (Ends ∷ []) behind)
-    (both (Begins (codes "left_out") ∷ (ps ++ Ends ∷ [])) behind (list (codes "left_out") ps (reasons_parts l.counts all_reasons))
-    (then _ _ tt (then _ _ tt nothing))))))
+    both before (begun ++ Ends ∷ behind) (singles before _)
+    (subst (AreMembers 1) (append_assoc begun (Ends ∷ []) behind)
+    (both (begun ++ Ends ∷ []) behind (list (codes "left_out") (reasons_fields l.counts all_reasons) (reasons_parts l.counts all_reasons)) (singles behind _)))
 
 pub counts_made : (l : Listing) (begun told : List Token) (ended made : List ℕ) → begun ≡ begin_object ∷ [] → told ≡ fold adds begun (counts_fields l)
     → ended ≡ print (told ++ end_object ∷ [])

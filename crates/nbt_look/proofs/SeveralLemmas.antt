@@ -268,6 +268,24 @@ pub record IsMerging (w : Asked) (olds news : List SourceValue) (number : ℕ) (
   pub printed : Appends out so_far text
   pub wrote : GrowTo writes written
 
+-- files of which nothing was read: none, and one more
+pub unread_none : (xs : List SourceValue) → xs ≡ [] → AreUnread xs
+unread_none xs is i t at = absurd (cc (sym (ap (λ (ys : List SourceValue). slice_get ys i) is) ∙ at))
+
+unread_at : (xs : List SourceValue) (known : Option (List ℕ)) (i : ℕ) (t : SourceValue) → AreUnread xs → slice_get (xs ++ unread known ∷ []) i ≡ Some t
+    → t ≡ unread t.known
+unread_at [] known zero t all is =
+    let same : unread known ≡ t = cc is in subst (λ (s : SourceValue). s ≡ unread s.known) same refl
+unread_at [] known (suc i) t all is = absurd (cc is)
+unread_at (x ∷ xs) known zero t all is = all 0 t is
+unread_at (x ∷ xs) known (suc i) t all is = unread_at xs known i t (λ j s at. all (suc j) s at) is
+
+pub unread_more : (xs ys : List SourceValue) (s : SourceValue) (known : Option (List ℕ)) → AreUnread xs → ys ≡ xs ++ s ∷ [] → s ≡ unread known
+    → AreUnread ys
+unread_more xs ys s known all is fresh i t at =
+    let grown : ys ≡ xs ++ unread known ∷ [] = is ∙ ap (λ (x : SourceValue). xs ++ x ∷ []) fresh in
+    unread_at xs known i t all (sym (ap (λ (zs : List SourceValue). slice_get zs i) grown) ∙ at)
+
 -- nothing is held of a file of which nothing was read
 unread_held : (o : Option SourceValue) → ((s : SourceValue) → o ≡ Some s → s ≡ unread s.known) → held_of o ≡ []
 unread_held None is = refl

@@ -3,11 +3,21 @@ use Rattle.std.specs.Prelude.{◌≡◌, ℕ, ◌&&◌, ◌||◌, Bool, true, fa
 use Rattle.nb_frames.specs.declared.carried.UdpDatagram.{UdpDatagram}
 use Rattle.nbt_look.specs.declared.counting.Outcome.{Outcome}
 use Rattle.nbt_look.specs.declared.hearing.Heard.{Heard}
-use Rattle.nbt_look.specs.declared.kinds.Heading.{Heading}
+use Rattle.nbt_look.specs.declared.heading.Heading.{Heading}
+use Rattle.nbt_look.specs.declared.kinds.Marks.{Marks}
 use Rattle.nbt_look.specs.declared.wanted.Filter.{Filter}
 use Rattle.nbt_look.specs.Hearing.{IsHeard}
-use Rattle.nbt_look.specs.Kinds.{IsHeading, is_of_kinds}
+use Rattle.nbt_look.specs.Heading.{IsHeading}
+use Rattle.nbt_look.specs.Kinds.{is_of_kinds}
 use Rattle.nbt_look.specs.Wanted.{is_any, looks_inside, wants}
+
+-- whether a packet of which this was heard has a name that is wanted; any does where none is
+abbrev pub is_named : Filter → Heard → Bool
+is_named filter heard = is_any filter.names || heard.is_named
+
+-- whether a packet of which this is known has a name that is wanted, and is of a kind that is
+abbrev pub fits : Filter → Marks → Bool
+fits filter marks = is_named filter marks.heard && is_of_kinds filter.kinds marks
 
 -- FitsInside filter payload port o is: whether a payload that came to the port, of a packet that counts so, has a name that is wanted, and is
 -- of a kind that is
@@ -16,7 +26,7 @@ pub record FitsInside (filter : Filter) (payload : List ℕ) (port : ℕ) (o : O
   pub hears : IsHeard filter.names payload port heard
   pub heading : Heading
   pub begins : IsHeading payload port heading
-  pub fits : is ≡ ((is_any filter.names || heard.is_named) && is_of_kinds filter.kinds (record { outcome = o; heading = heading; heard = heard }))
+  pub agrees : is ≡ fits filter (record { outcome = o; heading = heading; heard = heard })
 
 -- FitsToo inside filter payload port o is: the same, where its inside is looked at
 abbrev pub FitsToo : Bool → Filter → List ℕ → ℕ → Outcome → Bool → Type 0

@@ -1,16 +1,12 @@
 -- The kinds of packets (our choice), by the header (RFC 1002 sections 4.2.1.1 and 4.4.1) and what stands behind it.
-use Rattle.std.specs.Prelude.{◌≢◌, ◌<◌, ℕ, ◌%◌, ◌&&◌, ◌||◌, Bool, true, false, not, List, [], ◌∷◌, codes, length, nat_eq, nat_le, Option, Some, None}
+use Rattle.std.specs.Prelude.{ℕ, ◌&&◌, ◌||◌, Bool, true, false, not, List, [], ◌∷◌, codes, nat_eq, nat_le}
 use Rattle.std.specs.List.{list_any}
-use Rattle.nb_service.specs.declared.limits.TheConstants.{HEADER_LENGTH}
-use Rattle.nb_service.specs.Header.{HasHeader, PacketHeader, opcode_of, rcode_of}
-use Rattle.nb_datagram.specs.declared.front.Front.{Front}
-use Rattle.nb_datagram.specs.declared.front.FragmentFront.{FragmentFront}
-use Rattle.nb_datagram.specs.Fronts.{HasFront, LacksHeader}
+use Rattle.nb_service.specs.Header.{opcode_of, rcode_of}
 use Rattle.nbt_look.specs.declared.counting.Outcome.{Outcome}
 use Rattle.nbt_look.specs.declared.counting.Outcome.TheVariants as outcome
 use Rattle.nbt_look.specs.declared.hearing.Heard.{Heard}
-use Rattle.nbt_look.specs.declared.kinds.Heading.{Heading}
-use Rattle.nbt_look.specs.declared.kinds.Heading.TheVariants.{Names, Datagram as Message, Nothing}
+use Rattle.nbt_look.specs.declared.heading.Heading.{Heading}
+use Rattle.nbt_look.specs.declared.heading.Heading.TheVariants.{Names, Datagram as Message, Nothing}
 use Rattle.nbt_look.specs.declared.kinds.Kind.{Kind}
 use Rattle.nbt_look.specs.declared.kinds.Kind.TheVariants as kind
 use Rattle.nbt_look.specs.declared.kinds.Marks.{Marks}
@@ -106,24 +102,7 @@ datagram_kind kind.Missing type is_piece = nat_eq type 0x16
 datagram_kind kind.Negative type is_piece = nat_eq type 0x16
 datagram_kind _ type is_piece = false
 
--- PACKET_OFFSET, where there is one
-abbrev pub offset_in : Option FragmentFront → ℕ
-offset_in None = 0
-offset_in (Some fragment) = fragment.offset
-
--- whether a packet has a piece of a datagram: M, the lowest bit of FLAGS, or a place in it that isn't its first one
-abbrev pub is_piece : Front → Bool
-is_piece front = nat_eq (front.flags % 2) 1 || not (nat_eq (offset_in front.fragment) 0)
-
 -- ---- both
-
--- IsHeading payload port heading: this is what the header of a payload that came to the port says
-pub data IsHeading (payload : List ℕ) : ℕ → Heading → Type 0 where
-  names : (header : PacketHeader) → HasHeader payload header → IsHeading payload 137 (Names header.word)
-  no_names : length payload < HEADER_LENGTH → IsHeading payload 137 Nothing
-  message : (front : Front) → HasFront payload front → IsHeading payload 138 (Message front.message_type (is_piece front))
-  no_message : LacksHeader payload → IsHeading payload 138 Nothing
-  another : (port : ℕ) → port ≢ 137 → port ≢ 138 → IsHeading payload port Nothing
 
 -- by_heading kind heading heard: whether a packet of this header is of this kind
 abbrev pub by_heading : Kind → Heading → Heard → Bool

@@ -16,6 +16,7 @@ pub mod CommandLine
 pub mod Asking
 pub mod Naming
 pub mod Hearing
+pub mod Heading
 pub mod Kinds
 pub mod Colours
 pub mod Choosing

@@ -1,5 +1,5 @@
 -- The list of a capture: for each frame a line, or none, and what the lines before leave to it (our choice).
-use Rattle.std.specs.Prelude.{◌≡◌, ℕ, ◌+◌, Bool, true, false, List, [], ◌∷◌, ◌++◌, Option, Some, None}
+use Rattle.std.specs.Prelude.{◌≡◌, ℕ, ◌+◌, Bool, true, false, List, [], ◌∷◌, ◌++◌, Option, Some, None, string_bytes}
 use Rattle.std.specs.Fmt.{decimal}
 use Rattle.nb_frames.specs.declared.carried.Carried.{Carried}
 use Rattle.nb_frames.specs.declared.carried.Carried.TheVariants.{Udp, Tcp, Fragment, Other}
@@ -11,6 +11,7 @@ use Rattle.nb_pcap.specs.Frame.{FrameValue}
 use Rattle.nbt_look.specs.declared.counting.Outcome.{Outcome}
 use Rattle.nbt_look.specs.declared.counting.LeftOut.TheVariants as why
 use Rattle.nbt_look.specs.declared.counting.Outcome.TheVariants as outcome
+use Rattle.nbt_look.specs.declared.lister.Lister.{Lister}
 use Rattle.nbt_look.specs.declared.listing.Listing.{Listing}
 use Rattle.nbt_look.specs.declared.asked.Asked.{Asked}
 use Rattle.nbt_look.specs.declared.asked.Form.{Form}
@@ -72,6 +73,10 @@ printed Lines line object = line
 printed Colours line object = line
 printed Objects line object = object
 printed ObjectsAlone line object = object
+
+-- the same of the frame that came last
+abbrev pub text_in : Lister → List ℕ
+text_in l = printed l.listing.asked.form (string_bytes l.text) l.room
 
 -- Shows form first widths cells n f d port o phrase text: the text of frame n, which has this datagram and counts so, with these cells and
 -- this phrase; first is the time of the first frame that has one

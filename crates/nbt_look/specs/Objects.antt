@@ -42,9 +42,13 @@ interface_field None = unknown (codes "interface")
 interface_field (Some name) =
     cond (is_no_name name) (unknown (codes "interface")) (Text (bare_tag (codes "interface")) (flat_map shown_byte name))
 
+-- a byte of a hardware address after another one: its digits after a colon
+abbrev pub colon_byte : ℕ → List ℕ
+colon_byte byte = codes ":" ++ digits_of byte
+
 -- a hardware address: the digits of its bytes, with colons between them
 abbrev pub mac_text : List ℕ → List ℕ
-mac_text octets = digits_text (take 1 octets) ++ flat_map (λ byte. codes ":" ++ digits_of byte) (drop 1 octets)
+mac_text octets = digits_text (take 1 octets) ++ flat_map colon_byte (drop 1 octets)
 
 -- mac_field name mac: one under this name, where there is one
 abbrev pub mac_field : List ℕ → Option Mac → Field
@@ -69,11 +73,14 @@ link_fields f =
 abbrev pub size_fields : FrameValue → List Field
 size_fields f = Number (bare_tag (codes "size")) f.original ∷ Number (bare_tag (codes "captured")) (length f.bytes) ∷ []
 
+-- column_fields n f shown d: what the columns of a line have: of frame n its number, its time, which is shown so, its ends and its interface
+abbrev pub column_fields : ℕ → FrameValue → List ℕ → UdpDatagram → List Field
+column_fields n f shown d =
+    Number (bare_tag (codes "frame")) n ∷ time_field f.time shown ∷ (end_fields d ++ interface_field f.name ∷ [])
+
 -- frame_fields n f shown d: frame n, whose time is shown so, and which has this datagram
 abbrev pub frame_fields : ℕ → FrameValue → List ℕ → UdpDatagram → List Field
-frame_fields n f shown d =
-    Number (bare_tag (codes "frame")) n ∷ time_field f.time shown
-    ∷ (end_fields d ++ interface_field f.name ∷ (link_fields f ++ size_fields f))
+frame_fields n f shown d = column_fields n f shown d ++ (link_fields f ++ size_fields f)
 
 -- ---- the packet
 
@@ -96,11 +103,15 @@ head_fields n f d port first shown phrase = frame_fields n f shown d ++ arrival_
 abbrev pub left_out_field : Why → Field
 left_out_field reason = Text (bare_tag (codes "left_out")) (words_of reason)
 
+-- how many bytes a payload had that is cut
+abbrev pub cut_field : PayloadValue → Field
+cut_field payload = Number (bare_tag (codes "cut")) payload.wire_length
+
 -- TellsCut is_empty payload port fields: these are the fields of a payload that the snap length cut, of which no byte is held or some are
 abbrev pub TellsCut : Bool → PayloadValue → ℕ → List Field → Type 0
 TellsCut true payload port fields = fields ≡ left_out_field why.Cut ∷ []
 TellsCut false payload port fields =
-    (more : List Field) × TellsFront payload.bytes port more × (fields ≡ Number (bare_tag (codes "cut")) payload.wire_length ∷ more)
+    (more : List Field) × TellsFront payload.bytes port more × (fields ≡ cut_field payload ∷ more)
 
 -- TellsStanding standing payload port fields: these are the fields of a payload of the port that stands so
 abbrev pub TellsStanding : Standing → PayloadValue → ℕ → List Field → Type 0

@@ -1,10 +1,11 @@
 //! Which packets have a line.
-ghost use Rattle.std.specs.Prelude.{IfOk};
-ghost use Rattle.nbt_look.specs.Choosing.{FitsInside, IsWanted};
+ghost use Rattle.std.specs.Prelude.{◌≡◌, IfOk};
+ghost use Rattle.nbt_look.specs.Choosing.{FitsInside, IsWanted, fits, is_named};
 
 use crate::counting::Outcome;
-use crate::hearing::hear;
-use crate::kinds::{Marks, heading_of};
+use crate::heading::heading_of;
+use crate::hearing::{Heard, hear};
+use crate::kinds::Marks;
 use crate::wanted::Filter;
 use nb_frames::UdpDatagram;
 use nb_streams::NoMemory;
@@ -40,12 +41,26 @@ fn fits_inside(
 ) -> Result<bool, NoMemory>
     ensures { IfOk result (FitsInside filter.now payload.now port outcome) }
 {
-    let names = filter.names.as_slice();
-    let heard = hear(alloc, names, port, payload)?;
+    let heard = hear(alloc, filter.names.as_slice(), port, payload)?;
+    let heading = heading_of(port, payload);
     let marks = Marks {
         outcome,
-        heading: heading_of(port, payload),
+        heading,
         heard,
     };
-    Ok((names.is_empty() || heard.is_named) && marks.is_of_kinds(filter.kinds.as_slice()))
+    Ok(fits(filter, marks))
+}
+
+/// Whether a packet of which this is known has a name that is wanted, and is of a kind that is.
+fn fits(filter: &Filter, marks: Marks) -> bool
+    ensures { result ≡ fits filter.now marks }
+{
+    is_named(filter, marks.heard) && marks.is_of_kinds(filter.kinds.as_slice())
+}
+
+/// Whether a packet of which this was heard has a name that is wanted; any does, where none is.
+fn is_named(filter: &Filter, heard: Heard) -> bool
+    ensures { result ≡ is_named filter.now heard }
+{
+    filter.names.as_slice().is_empty() || heard.is_named
 }

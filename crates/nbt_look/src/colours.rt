@@ -1,9 +1,9 @@
 //! The colours of lines on a terminal.
 ghost use Rattle.std.specs.Prelude.{◌≡◌, ◌++◌, IfSome, OnOk, string_bytes};
-ghost use Rattle.nbt_look.specs.Colours.{ColouredBy, asks_for_colours, colour_of, coloured_line, is_of_conflict, start_of};
+ghost use Rattle.nbt_look.specs.Colours.{ColouredBy, asks_for_colours, colour_of, coloured_line, is_of_conflict, line_in, start_of};
 
 use crate::counting::Outcome;
-use crate::kinds::{Heading, heading_of};
+use crate::heading::{Heading, heading_of};
 use crate::widths::{Cells, Widths, push_columns, push_line};
 use nb_service::rcode;
 use nb_streams::NoMemory;
@@ -68,6 +68,24 @@ fn colour_of(outcome: Outcome, heading: Heading) -> Option<Colour>
 
 /// Adds a line in this colour: its columns and a phrase.
 fn push_in_colour(
+    colour: Colour,
+    widths: Widths,
+    cells: &Cells,
+    phrase: &str,
+    text: &mut String,
+) -> Result<(), NoMemory>
+    ensures { OnOk result (string_bytes text.new
+        ≡ string_bytes text.old ++ line_in colour widths cells.now phrase.now) }
+{
+    text.push_str(start_of(colour))?;
+    push_columns(widths, cells, text)?;
+    text.push_str(phrase)?;
+    text.push_str("\x1b[0m\n")?;
+    Ok(())
+}
+
+/// Adds a line in this colour, or in none.
+fn push_line_in(
     colour: Option<Colour>,
     widths: Widths,
     cells: &Cells,
@@ -77,14 +95,10 @@ fn push_in_colour(
     ensures { OnOk result (string_bytes text.new
         ≡ string_bytes text.old ++ coloured_line colour widths cells.now phrase.now) }
 {
-    let Some(colour) = colour else {
-        return push_line(widths, cells, phrase, text);
-    };
-    text.push_str(start_of(colour))?;
-    push_columns(widths, cells, text)?;
-    text.push_str(phrase)?;
-    text.push_str("\x1b[0m\n")?;
-    Ok(())
+    match colour {
+        Some(colour) => push_in_colour(colour, widths, cells, phrase, text),
+        None => push_line(widths, cells, phrase, text),
+    }
 }
 
 /// Adds the line of a packet that counts so, with this payload that came to this port, in its
@@ -101,6 +115,7 @@ pub fn push_coloured(
     ensures { OnOk result (ColouredBy outcome payload.now port widths cells.now phrase.now
         (string_bytes text.old) (string_bytes text.new)) }
 {
-    let colour = colour_of(outcome, heading_of(port, payload));
-    push_in_colour(colour, widths, cells, phrase, text)
+    let heading = heading_of(port, payload);
+    let colour = colour_of(outcome, heading);
+    push_line_in(colour, widths, cells, phrase, text)
 }

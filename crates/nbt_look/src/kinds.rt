@@ -1,11 +1,11 @@
 //! The kinds of packets.
 ghost use Rattle.std.specs.Prelude.{◌≡◌, IfSome};
-ghost use Rattle.nbt_look.specs.Kinds.{IsHeading, heading_kind, is_claim, is_datagram, is_demand, is_left_out, is_malformed, is_of, is_of_any, is_of_kinds, is_piece, is_refresh, is_response, is_taken, kind_word, names_kind, datagram_kind, does, says};
+ghost use Rattle.nbt_look.specs.Kinds.{datagram_kind, does, heading_kind, is_claim, is_datagram, is_demand, is_left_out, is_malformed, is_of, is_of_any, is_of_kinds, is_refresh, is_response, is_taken, kind_word, names_kind, says};
 
 use crate::counting::Outcome;
+use crate::heading::Heading;
 use crate::hearing::Heard;
-use nb_datagram::{Front, read_front};
-use nb_service::{opcode, rcode, read_header};
+use nb_service::{opcode, rcode};
 
 /// A kind of packets, as `--kind` calls it.
 #[derive(Clone, Copy, Debug, PartialEq, Eq)]
@@ -87,61 +87,6 @@ pub fn kind_of(word: &str) -> Option<Kind>
         "left-out" => Kind::LeftOut,
         _ => return None,
     })
-}
-
-/// What the header of a packet says of its kinds.
-#[derive(Clone, Copy, Debug, PartialEq, Eq)]
-pub enum Heading {
-    /// Of port 137: the flag word (RFC 1002 section 4.2.1.1).
-    Names(u16),
-    /// Of port 138: MSG_TYPE (section 4.4.1), and whether it has a piece of a datagram.
-    Datagram(u8, bool),
-    /// It isn't whole.
-    Nothing,
-}
-
-/// What the header of a payload that came to this port says, where it is whole.
-pub fn heading_of(port: u16, payload: &[u8]) -> Heading
-    ensures { IsHeading payload.now port result }
-{
-    if port == 137 {
-        return names_heading(payload);
-    }
-    if port == 138 {
-        return datagram_heading(payload);
-    }
-    Heading::Nothing
-}
-
-/// The same of port 137.
-fn names_heading(payload: &[u8]) -> Heading
-    ensures { IsHeading payload.now 137 result }
-{
-    match read_header(payload) {
-        Ok(header) => Heading::Names(header.word),
-        Err(_) => Heading::Nothing,
-    }
-}
-
-/// The same of port 138.
-fn datagram_heading(payload: &[u8]) -> Heading
-    ensures { IsHeading payload.now 138 result }
-{
-    match read_front(payload) {
-        Some(front) => Heading::Datagram(front.message_type, is_piece(&front)),
-        None => Heading::Nothing,
-    }
-}
-
-/// Whether a packet of port 138 that begins so has a piece of a datagram.
-fn is_piece(front: &Front<'_>) -> bool
-    ensures { result ≡ is_piece front.now }
-{
-    let offset = match &front.fragment {
-        Some(fragment) => fragment.offset,
-        None => 0,
-    };
-    front.flags % 2 == 1 || offset != 0
 }
 
 /// What says of which kinds a packet is.

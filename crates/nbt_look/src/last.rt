@@ -16,7 +16,7 @@ use std::alloc::Global;
 
 /// Tells how many frames a reason left out, as a part of a list.
 fn tell_reason<S: Sink>(count: u64, reason: LeftOut, sink: &mut S) -> Result<(), NoMemory>
-    ensures told { OnOk result (S.seen sink.new
+    ensures { OnOk result (S.seen sink.new
         ≡ fold S.after (S.seen sink.old) (reason_fields count reason)) }
 {
     sink.part("")?;
@@ -27,7 +27,7 @@ fn tell_reason<S: Sink>(count: u64, reason: LeftOut, sink: &mut S) -> Result<(),
 
 /// Tells how many frames each of these reasons left out, where it did.
 fn tell_reasons<S: Sink>(counts: &Counts, reasons: &[LeftOut], sink: &mut S) -> Result<(), NoMemory>
-    ensures told { OnOk result (S.seen sink.new
+    ensures { OnOk result (S.seen sink.new
         ≡ fold S.after (S.seen sink.old) (reasons_fields counts.now reasons.now)) }
 {
     for reason in reasons {
@@ -41,7 +41,7 @@ fn tell_reasons<S: Sink>(counts: &Counts, reasons: &[LeftOut], sink: &mut S) -> 
 
 /// Tells how many frames and packets there are, and what they have.
 fn tell_counts<S: Sink>(listing: &Listing, sink: &mut S) -> Result<(), NoMemory>
-    ensures told { OnOk result
+    ensures { OnOk result
         (S.seen sink.new ≡ fold S.after (S.seen sink.old) (counts_fields listing.now)) }
 {
     let counts = &listing.counts;

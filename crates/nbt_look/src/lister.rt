@@ -3,7 +3,7 @@ ghost use Rattle.std.specs.Prelude.{◌≡◌, ◌++◌, [], ℕ, List, OnOk, st
 ghost use Rattle.nb_pcap.specs.Frame.{value_of};
 ghost use Rattle.nbt_look.specs.Objects.{IsPacketObject};
 ghost use Rattle.nbt_look.specs.Times.{IsTime};
-ghost use Rattle.nbt_look.specs.Listing.{HasLine, Lists, ListsCarried, ListsDatagram, Shows, cells_of, label_in, listed, nothing_listed, printed, segment_outcome};
+ghost use Rattle.nbt_look.specs.Listing.{HasLine, Lists, ListsCarried, ListsDatagram, Shows, cells_of, label_in, listed, nothing_listed, segment_outcome, text_in};
 
 use crate::asked::{Asked, Form};
 use crate::cells::{set_cells, set_label};
@@ -65,8 +65,7 @@ impl Lister {
 
     /// What is printed of the frame that came last.
     pub fn printed(&self) -> &[u8]
-        ensures { result.now ≡ printed self.now.listing.asked.form (string_bytes self.now.text)
-            self.now.room }
+        ensures { result.now ≡ text_in self.now }
     {
         match self.listing.asked.form {
             Form::Lines | Form::Colours => self.text.as_bytes(),
@@ -77,8 +76,7 @@ impl Lister {
     /// Lets go of what is printed of the frame that came last.
     fn clear(&mut self)
         ensures listing { self.new.listing ≡ self.old.listing }
-        ensures printed { printed self.new.listing.asked.form (string_bytes self.new.text)
-            self.new.room ≡ [] }
+        ensures text { text_in self.new ≡ [] }
     {
         match self.listing.asked.form {
             Form::Lines | Form::Colours => self.text.clear(),
@@ -91,8 +89,7 @@ impl Lister {
     /// Makes the text of a frame: a line, or none.
     pub fn make(&mut self, frame: &Frame<'_>) -> Result<(), NoMemory>
         ensures { OnOk result (Lists frame.now.number (value_of frame.now)
-            self.old.listing self.new.listing (printed self.new.listing.asked.form
-            (string_bytes self.new.text) self.new.room)) }
+            self.old.listing self.new.listing (text_in self.new)) }
     {
         self.clear();
         self.listing.see(frame.time);
@@ -102,11 +99,9 @@ impl Lister {
 
     /// Makes the text of a frame that carries this.
     fn make_carried(&mut self, frame: &Frame<'_>, carried: &Carried<'_>) -> Result<(), NoMemory>
-        requires { printed self.old.listing.asked.form (string_bytes self.old.text)
-            self.old.room ≡ [] }
+        requires { text_in self.old ≡ [] }
         ensures { OnOk result (ListsCarried carried.now self.old.listing frame.now.number
-            (value_of frame.now) self.new.listing (printed self.new.listing.asked.form
-            (string_bytes self.new.text) self.new.room)) }
+            (value_of frame.now) self.new.listing (text_in self.new)) }
     {
         let outcome = match carried {
             Carried::Udp(datagram) => match carried.service_port() {
@@ -129,11 +124,9 @@ impl Lister {
         datagram: &UdpDatagram<'_>,
         port: u16,
     ) -> Result<(), NoMemory>
-        requires { printed self.old.listing.asked.form (string_bytes self.old.text)
-            self.old.room ≡ [] }
+        requires { text_in self.old ≡ [] }
         ensures { OnOk result (ListsDatagram self.old.listing frame.now.number (value_of frame.now)
-            datagram.now port self.new.listing (printed self.new.listing.asked.form
-            (string_bytes self.new.text) self.new.room)) }
+            datagram.now port self.new.listing (text_in self.new)) }
     {
         let standing = standing_of(frame, &datagram.payload);
         self.phrase.clear();
@@ -161,13 +154,11 @@ impl Lister {
         port: u16,
         outcome: Outcome,
     ) -> Result<(), NoMemory>
-        requires { printed self.old.listing.asked.form (string_bytes self.old.text)
-            self.old.room ≡ [] }
+        requires { text_in self.old ≡ [] }
         ensures { OnOk result ((at : List ℕ)
             × IsTime self.old.listing.asked.times self.old.listing.first frame.now.time at
             × HasLine self.old.listing at frame.now.number (value_of frame.now) datagram.now port
-            outcome (string_bytes self.old.phrase) self.new.listing
-            (printed self.new.listing.asked.form (string_bytes self.new.text) self.new.room)) }
+            outcome (string_bytes self.old.phrase) self.new.listing (text_in self.new)) }
     {
         set_label(frame, &mut self.label)?;
         set_cells(
@@ -197,13 +188,11 @@ impl Lister {
         port: u16,
         outcome: Outcome,
     ) -> Result<(), NoMemory>
-        requires { printed self.old.listing.asked.form (string_bytes self.old.text)
-            self.old.room ≡ [] }
+        requires { text_in self.old ≡ [] }
         ensures listing { self.new.listing ≡ self.old.listing }
         ensures shown { OnOk result (Shows self.old.listing.asked.form self.old.listing.first
             self.old.listing.widths self.old.cells frame.now.number (value_of frame.now)
-            datagram.now port outcome (string_bytes self.old.phrase)
-            (printed self.new.listing.asked.form (string_bytes self.new.text) self.new.room)) }
+            datagram.now port outcome (string_bytes self.old.phrase) (text_in self.new)) }
     {
         let (widths, phrase) = (self.listing.widths, self.phrase.as_str());
         match self.listing.asked.form {

@@ -28,7 +28,7 @@ fn print_next<R: Read, W: Write>(
         writer.old.counts writer.new.counts result }
 {
     source.make(number, lister)?;
-    match write_whole(writer, lister.text.as_bytes()) {
+    match write_whole(writer, lister.printed()) {
         Ok(()) => Ok(()),
         Err(_) => Err(PrintFault::Write),
     }

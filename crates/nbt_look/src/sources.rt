@@ -1,16 +1,15 @@
 //! Files that are read side by side, each as far as its next frame.
-ghost use Rattle.std.specs.Prelude.{◌≡◌, ◌<◌, IfOk, IfSome, MatchOption, length, string_bytes};
+ghost use Rattle.std.specs.Prelude.{◌≡◌, ◌<◌, IfSome, MatchOption, length};
+ghost use Rattle.nbt_look.specs.Listing.{text_in};
 ghost use Rattle.nbt_look.specs.Merging.{comes_first};
 ghost use Rattle.nbt_look.specs.Several.{AreUnread, GivesTo, ending_in};
 ghost use Rattle.nbt_look.specs.Sources.{Fills, FillsAll, IsFirst, NoneFirst, earlier_of, time_in, unread};
 
 use crate::lister::Lister;
 use crate::printing::{Ending, stopped};
-use crate::signature::{Signature, SignatureInput};
 use nb_pcap::{FileRoom, Frame, next_frame};
 use nb_streams::{Counted, NoMemory};
 use std::alloc::Global;
-use std::cell::Cell;
 use std::io::Read;
 use std::marker::Model;
 
@@ -76,7 +75,7 @@ impl<R: Read> Source<R> {
     /// Makes the text of the frame that the file has to give, as frame `number` of all.
     pub fn make(&mut self, number: u64, lister: &mut Lister) -> Result<(), NoMemory>
         ensures { GivesTo number self.old self.new lister.old.listing lister.new.listing
-            (string_bytes lister.new.text) result }
+            (text_in lister.new) result }
     {
         if let Some(frame) = self.file.last_frame() {
             lister.make(&Frame { number, ..frame })?;
@@ -106,19 +105,21 @@ impl<R: Read> Source<R> {
     }
 }
 
-/// These inputs, whose signatures these cells keep.
-pub fn sources_of<'a, R: Read + Drop>(
+/// Adds this input to files of which nothing was read.
+///
+/// # Errors
+///
+/// [`NoMemory`] where memory ran out. The files are then as they were.
+pub fn add_source<R: Read + Drop>(
     alloc: Global,
-    inputs: Vec<R>,
-    signatures: &'a [Cell<Signature>],
-) -> Result<Vec<Source<SignatureInput<'a, R>>>, NoMemory>
-    ensures { IfOk result (λ sources. AreUnread sources.items) }
+    input: R,
+    sources: &mut Vec<Source<R>>,
+) -> Result<(), NoMemory>
+    requires { AreUnread sources.old.items }
+    ensures { AreUnread sources.new.items }
 {
-    let mut sources = Vec::new(alloc);
-    for (input, signature) in inputs.into_iter().zip(signatures) {
-        sources.push(Source::new(alloc, SignatureInput::new(input, signature)))?;
-    }
-    Ok(sources)
+    sources.push(Source::new(alloc, input))?;
+    Ok(())
 }
 
 /// Whether a frame of this time comes before one of the other time, which is of a file that was

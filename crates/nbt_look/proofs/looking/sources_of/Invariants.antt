@@ -1,0 +1,5 @@
+use Rattle.nbt_look.specs.Several.{AreUnread}
+use Rattle.nbt_look.proofs.looking.sources_of.Given as goal
+
+abbrev pub invariant-loop-title : goal.invariant-loop-title
+invariant-loop-title l = AreUnread l.sources.items

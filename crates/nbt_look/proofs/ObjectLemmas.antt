@@ -1,5 +1,5 @@
 -- The objects that are printed of packets and counts.
-use Rattle.std.proofs.Common.{◌≡◌, ◌≤◌, ℕ, Bool, true, false, List, [], ◌∷◌, ◌++◌, Option, None, Some, cond, fold, flat_map, nat_eq, length, append_assoc, ap, arith, codes, refl, subst, sym, ◌∙◌}
+use Rattle.std.proofs.Common.{◌≡◌, ◌≤◌, ℕ, Bool, true, false, List, [], ◌∷◌, ◌++◌, Option, None, Some, cond, fold, flat_map, nat_eq, length, ap, arith, codes, refl, subst, sym, ◌∙◌}
 use Rattle.json.specs.Token.{Token, begin_object, end_object}
 use Rattle.json.specs.Print.{print}
 use Rattle.nb_frames.specs.declared.carried.UdpDatagram.{UdpDatagram}
@@ -7,7 +7,7 @@ use Rattle.nb_frames.specs.declared.contents.Mac.{Mac}
 use Rattle.nb_frames.specs.Link.{link_of, receiver_of, sender_of, vlans_of}
 use Rattle.nb_frames.specs.Payload.{PayloadValue}
 use Rattle.nb_pcap.specs.Frame.{FrameValue}
-use Rattle.nb_telling.specs.Telling.{Begins, Ends, Field, Number, Text}
+use Rattle.nb_telling.specs.Telling.{Field, Number, Text}
 use Rattle.nb_telling.specs.Members.{AreMembers, AreParts, IsJson, IsMember, both, list, member, no_part, part, parts}
 use Rattle.nb_telling.specs.ObjectLines.{IsObject}
 use Rattle.nb_telling.specs.Tokens.{tokens_of}
@@ -26,7 +26,7 @@ use Rattle.nbt_look.specs.Counting.{count_of}
 use Rattle.nbt_look.specs.Ends.{is_no_name, shown_byte}
 use Rattle.nbt_look.specs.Objects.{IsPacketObject, TellsCut, TellsStanding, arrival_fields, column_fields, cut_field, end_fields, frame_fields, head_fields, interface_field, left_out_field, link_fields, mac_field, moment_of, size_fields, time_field, unknown, vlan_fields, vlans_fields}
 use Rattle.nbt_look.specs.Standing.{standing_of}
-use Rattle.nbt_look.specs.Totals.{all_reasons, counts_fields, reason_fields, reasons_fields, words_of}
+use Rattle.nbt_look.specs.Totals.{all_reasons, counts_fields, left_out_fields, packets_fields, reason_fields, reasons_fields, rest_fields, words_of}
 
 time_members : {depth : ℕ} (at : Option ℕ) (shown : List ℕ) → AreMembers depth (time_field at shown ∷ [])
 time_members None shown = singles (time_field None shown ∷ []) _
@@ -160,13 +160,9 @@ reasons_parts c (w ∷ ws) = reason_parts (nat_eq (count_of w c) 0) c w (reasons
 
 counts_members : (l : Listing) → AreMembers 1 (counts_fields l)
 counts_members l =
-    let before = Number (bare_tag (codes "frames")) l.counts.frames ∷ Number (bare_tag (codes "packets")) l.counts.packets
-        ∷ Number (bare_tag (codes "malformed")) l.counts.malformed ∷ [] in
-    let begun = Begins (codes "left_out") ∷ reasons_fields l.counts all_reasons in
-    let behind = Number (bare_tag (codes "others")) l.counts.others ∷ Number (bare_tag (codes "shown")) l.shown ∷ [] in
-    both before (begun ++ Ends ∷ behind) (singles before _)
-    (subst (AreMembers 1) (append_assoc begun (Ends ∷ []) behind)
-    (both (begun ++ Ends ∷ []) behind (list (codes "left_out") (reasons_fields l.counts all_reasons) (reasons_parts l.counts all_reasons)) (singles behind _)))
+    both (packets_fields l.counts) (left_out_fields l.counts ++ rest_fields l) (singles (packets_fields l.counts) _)
+    (both (left_out_fields l.counts) (rest_fields l)
+    (list (codes "left_out") (reasons_fields l.counts all_reasons) (reasons_parts l.counts all_reasons)) (singles (rest_fields l) _))
 
 pub counts_made : (l : Listing) (begun told : List Token) (ended made : List ℕ) → begun ≡ begin_object ∷ [] → told ≡ fold adds begun (counts_fields l)
     → ended ≡ print (told ++ end_object ∷ [])

@@ -35,6 +35,7 @@ MayGive Unread more = Unit
 MayGive (Frame time) more = Unit
 MayGive (Ended ending) more = more ≡ []
 
+-- the same at a place where there may be no file
 abbrev pub MayGiveOf : Option SourceValue → List FrameValue → Type 0
 MayGiveOf None more = more ≡ []
 MayGiveOf (Some s) more = MayGive s.waiting more
@@ -56,12 +57,13 @@ pub record AreListed (w : Asked) (olds news : List SourceValue) (new : Listing) 
   pub merges : MergesOn news frames merged
   pub lists : ListsAll 1 merged (nothing_listed w) new text
 
--- AllEnded sources: each file was read to its end
+-- the file was read to its end
 abbrev pub HasEnded : Waiting → Type 0
 HasEnded Unread = ⊥
 HasEnded (Frame time) = ⊥
 HasEnded (Ended ending) = Unit
 
+-- AllEnded sources: each file was
 abbrev pub AllEnded : List SourceValue → Type 0
 AllEnded sources = (i : ℕ) (s : SourceValue) → slice_get sources i ≡ Some s → HasEnded s.waiting
 

@@ -49,6 +49,7 @@ FillsFrom Unread old new =
 FillsFrom (Frame time) old new = new ≡ old
 FillsFrom (Ended ending) old new = new ≡ old
 
+-- the same of what it has to give now
 abbrev pub Fills : SourceValue → SourceValue → Type 0
 Fills old new = FillsFrom old.waiting old new
 
@@ -65,6 +66,7 @@ time_in Unread = None
 time_in (Frame time) = Some time
 time_in (Ended ending) = None
 
+-- the same at a place where there may be no file
 abbrev pub time_of : Option SourceValue → Option (Option ℕ)
 time_of None = None
 time_of (Some s) = time_in s.waiting
@@ -129,6 +131,7 @@ held_in Unread file = []
 held_in (Frame time) file = last_given (last_of file)
 held_in (Ended ending) file = []
 
+-- the same at a place where there may be no file
 abbrev pub held_of : Option SourceValue → List FrameValue
 held_of None = []
 held_of (Some s) = held_in s.waiting s.file

@@ -105,13 +105,23 @@ reasons_fields c [] = []
 reasons_fields c (w ∷ ws) =
     cond (nat_eq (count_of w c) 0) (reasons_fields c ws) (reason_fields (count_of w c) w ++ reasons_fields c ws)
 
+-- how many frames and packets there are
+abbrev pub packets_fields : Counts → List Field
+packets_fields c =
+    Number (bare_tag (codes "frames")) c.frames ∷ Number (bare_tag (codes "packets")) c.packets
+    ∷ Number (bare_tag (codes "malformed")) c.malformed ∷ []
+
+-- the list of the reasons that left frames out
+abbrev pub left_out_fields : Counts → List Field
+left_out_fields c = Begins (codes "left_out") ∷ (reasons_fields c all_reasons ++ Ends ∷ [])
+
+-- how many frames have no packet, and how many packets are shown
+abbrev pub rest_fields : Listing → List Field
+rest_fields l = Number (bare_tag (codes "others")) l.counts.others ∷ Number (bare_tag (codes "shown")) l.shown ∷ []
+
 -- how many frames and packets there are, and what they have
 abbrev pub counts_fields : Listing → List Field
-counts_fields l =
-    Number (bare_tag (codes "frames")) l.counts.frames ∷ Number (bare_tag (codes "packets")) l.counts.packets
-    ∷ Number (bare_tag (codes "malformed")) l.counts.malformed ∷ Begins (codes "left_out")
-    ∷ (reasons_fields l.counts all_reasons
-    ++ Ends ∷ Number (bare_tag (codes "others")) l.counts.others ∷ Number (bare_tag (codes "shown")) l.shown ∷ [])
+counts_fields l = packets_fields l.counts ++ (left_out_fields l.counts ++ rest_fields l)
 
 -- what stands after the list in this form
 abbrev pub last_in : Form → Listing → List ℕ

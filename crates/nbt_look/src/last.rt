@@ -3,7 +3,7 @@
 
 ghost use Rattle.std.specs.Prelude.{◌≡◌, IfOk, OnOk, fold};
 ghost use Rattle.nb_telling.specs.ObjectLines.{IsObject};
-ghost use Rattle.nbt_look.specs.Totals.{all_reasons, counts_fields, last_lines, last_text, reason_fields, reasons_fields};
+ghost use Rattle.nbt_look.specs.Totals.{counts_fields, last_lines, last_text, left_out_fields, packets_fields, reason_fields, reasons_fields, rest_fields};
 
 use crate::asked::Form;
 use crate::counting::{ALL, Counts, LeftOut};
@@ -39,20 +39,43 @@ fn tell_reasons<S: Sink>(counts: &Counts, reasons: &[LeftOut], sink: &mut S) -> 
     Ok(())
 }
 
+/// Tells how many frames and packets there are.
+fn tell_packets<S: Sink>(counts: &Counts, sink: &mut S) -> Result<(), NoMemory>
+    ensures { OnOk result
+        (S.seen sink.new ≡ fold S.after (S.seen sink.old) (packets_fields counts.now)) }
+{
+    sink.number(bare("frames"), counts.frames)?;
+    sink.number(bare("packets"), counts.packets)?;
+    sink.number(bare("malformed"), counts.malformed)
+}
+
+/// Tells the list of the reasons that left frames out.
+fn tell_left_out<S: Sink>(counts: &Counts, sink: &mut S) -> Result<(), NoMemory>
+    ensures { OnOk result
+        (S.seen sink.new ≡ fold S.after (S.seen sink.old) (left_out_fields counts.now)) }
+{
+    sink.begins("left_out")?;
+    tell_reasons(counts, &ALL, sink)?;
+    sink.ends()
+}
+
+/// Tells how many frames have no packet, and how many packets are shown.
+fn tell_rest<S: Sink>(listing: &Listing, sink: &mut S) -> Result<(), NoMemory>
+    ensures { OnOk result
+        (S.seen sink.new ≡ fold S.after (S.seen sink.old) (rest_fields listing.now)) }
+{
+    sink.number(bare("others"), listing.counts.others)?;
+    sink.number(bare("shown"), listing.shown)
+}
+
 /// Tells how many frames and packets there are, and what they have.
 fn tell_counts<S: Sink>(listing: &Listing, sink: &mut S) -> Result<(), NoMemory>
     ensures { OnOk result
         (S.seen sink.new ≡ fold S.after (S.seen sink.old) (counts_fields listing.now)) }
 {
-    let counts = &listing.counts;
-    sink.number(bare("frames"), counts.frames)?;
-    sink.number(bare("packets"), counts.packets)?;
-    sink.number(bare("malformed"), counts.malformed)?;
-    sink.begins("left_out")?;
-    tell_reasons(counts, &ALL, sink)?;
-    sink.ends()?;
-    sink.number(bare("others"), counts.others)?;
-    sink.number(bare("shown"), listing.shown)
+    tell_packets(&listing.counts, sink)?;
+    tell_left_out(&listing.counts, sink)?;
+    tell_rest(listing, sink)
 }
 
 /// The object of the counts, as a line.

@@ -1,11 +1,32 @@
-use Rattle.std.proofs.Common.{◌∷◌, [], refl}
+use Rattle.std.proofs.Common.{◌∷◌, [], refl, subst, sym}
 use Rattle.std.proofs.lemmas.Result.{on_ok_weaker}
 use Rattle.nbt_look.specs.declared.counting.LeftOut.TheVariants.{BadLength}
-use Rattle.nbt_look.specs.Objects.{left_out_field}
+use Rattle.nbt_look.specs.declared.standing.Standing.{Standing}
+use Rattle.nbt_look.specs.Objects.{TellsStanding, left_out_field}
 use Rattle.nbt_look.proofs.objects.tell_standing.Goals as goal
 
 pub returns-in-Whole : goal.returns-in-Whole
-returns-in-Whole g c = on_ok_weaker c.tell_front.result (λ told. (told.fields, rw c.bytes.ensures.value at told.tells, told.seen)) c.tell_front.ensures.told
+returns-in-Whole g c =
+    on_ok_weaker c.tell_front.result
+    (λ told. (
+      told.fields,
+      subst (λ (s : Standing). TellsStanding s c.args.payload.now c.args.port told.fields) (sym c.in-Whole.is) (rw c.bytes.ensures.value at told.tells),
+      told.seen,
+    ))
+    c.tell_front.ensures.told
+
+pub returns-in-Cut : goal.returns-in-Cut
+returns-in-Cut g c =
+    on_ok_weaker c.tell_cut.result
+    (λ told. (told.0, subst (λ (s : Standing). TellsStanding s c.args.payload.now c.args.port told.0) (sym c.in-Cut.is) told.1, told.2))
+    c.tell_cut.ensures
 
 pub returns-in-BadLength : goal.returns-in-BadLength
-returns-in-BadLength g c = on_ok_weaker c.tell_left_out.result (λ told. (left_out_field BadLength ∷ [], refl, told)) c.tell_left_out.ensures
+returns-in-BadLength g c =
+    on_ok_weaker c.tell_left_out.result
+    (λ told. (
+      left_out_field BadLength ∷ [],
+      subst (λ (s : Standing). TellsStanding s c.args.payload.now c.args.port (left_out_field BadLength ∷ [])) (sym c.in-BadLength.is) refl,
+      told,
+    ))
+    c.tell_left_out.ensures

@@ -27,7 +27,7 @@ complete -F _nbt nbt
 _nbt_tool() {
     local words=''
     case ${1##*/} in
-    nbt-look) words='--quiet --name --host --port -c --time --help --version' ;;
+    nbt-look) words='--quiet --name --host --port --kind -c --time --color --json -r --help --version' ;;
     nbt-look-tshark) words='-i --live --summary --frame --json --html --name --host --port --kind --time --color --quiet --version -r --help' ;;
     nbt-pcap2cap) words='--bare --no-ticks --cut --quiet --port --live -i --help' ;;
     nbt-cap2pcap) words='--help' ;;

@@ -1,5 +1,5 @@
 -- Merging files by the times of their frames.
-use Rattle.std.proofs.Common.{◌≡◌, ◌∙◌, ◌⊎◌, inl, inr, ◌<◌, ◌≤◌, ◌++◌, ◌∷◌, ℕ, Bool, true, false, List, [], length, Option, Some, None, cond, drop, nat_eq, nat_lt, nat_le, ap, refl, subst, suc, arith}
+use Rattle.std.proofs.Common.{◌≡◌, ◌∙◌, ◌⊎◌, inl, inr, ◌<◌, ◌≤◌, ◌++◌, ◌∷◌, ℕ, Bool, true, false, List, [], length, Option, Some, None, cond, drop, nat_eq, ap, refl, subst, suc, arith}
 use Rattle.std.proofs.lemmas.Bool.{cases_lt, eqb-true}
 use Rattle.std.proofs.lemmas.Bool.Decides.{nat_tests}
 use Rattle.nb_pcap.specs.Frame.{FrameValue}
@@ -87,6 +87,6 @@ pub ascends : (files left : ℕ → List FrameValue) (fs : List FrameValue) → 
 ascends _ _ _ up (none files) = tt
 ascends _ _ _ up (one_more files left at f fs next rest) = (
   begins_from (without at files) left fs f
-  (λ then g is. by_place files at then f g (up then) next (nat_eq then at) refl is.begins) rest,
+      (λ then g is. by_place files at then f g (up then) next (nat_eq then at) refl is.begins) rest,
   ascends (without at files) left fs (λ i. drop_ascending (nat_eq i at) (files i) (up i)) rest,
 )

@@ -1,12 +1,12 @@
 -- What printing the list of several files keeps from frame to frame, and how it ends.
-use Rattle.std.proofs.Common.{◌≡◌, ◌≢◌, ◌∙◌, ◌⊎◌, inl, inr, ◌<◌, ◌+◌, ◌-◌, ◌^◌, ◌++◌, ◌∷◌, ℕ, zero, suc, Bool, true, false, List, [], length, set, slice_get, Option, Some, None, Result, Ok, Err, cond, drop, nat_eq, ap, refl, sym, subst, arith, append_assoc}
+use Rattle.std.proofs.Common.{◌≡◌, ◌≢◌, ◌∙◌, ◌⊎◌, inl, inr, ◌+◌, ◌-◌, ◌^◌, ◌++◌, ◌∷◌, ℕ, zero, suc, Bool, true, false, List, [], length, set, slice_get, Option, Some, None, Result, Ok, Err, cond, drop, nat_eq, ap, refl, sym, subst, arith, append_assoc}
 use Rattle.std.specs.Io.KnownBytes.{Appends}
 use Rattle.std.proofs.lemmas.Bool.{eqb-true, cases_eq}
 use Rattle.std.proofs.lemmas.Bool.Decides.{nat_tests}
 use Rattle.std.proofs.lemmas.List.{length-append, length-set}
 use Rattle.std.proofs.lemmas.Option.{slice_get_within}
 use Rattle.nb_streams.specs.Counted.{Counts as Calls}
-use Rattle.nb_streams.specs.Devices.{AppendsFront, GrowTo, ShowsWriteFault}
+use Rattle.nb_streams.specs.Devices.{GrowTo}
 use Rattle.nb_streams.specs.DeviceFacts.{Appends-kept, Appends-more, Appends-nil, fails_from, front_after, grows_on}
 use Rattle.nb_pcap.specs.Frame.{FrameValue}
 use Rattle.nb_pcap.specs.Reading.{FileValue, Numbered, last_of}
@@ -20,7 +20,7 @@ use Rattle.nbt_look.specs.Listing.{Lists, ListsAll, none, nothing_listed}
 use Rattle.nbt_look.specs.Merging.{IsNext, Merges, comes_first, first_of, with_more, without}
 use Rattle.nbt_look.specs.Merging as merging
 use Rattle.nbt_look.specs.Printing.{PrintsFrame, PrintsLast}
-use Rattle.nbt_look.specs.Several.{AllEnded, AreListed, AreUnread, GivenAt, HasEnded, IsDone, MayGive, MayGiveOf, MergesOn, PrintsMerged, PrintsSeveral, held}
+use Rattle.nbt_look.specs.Several.{AreListed, AreUnread, GivenAt, HasEnded, IsDone, MayGive, MayGiveOf, MergesOn, PrintsMerged, PrintsSeveral, held}
 use Rattle.nbt_look.specs.Sources.{AreRead, Fills, FillsAll, FillsFrom, IsFirst, IsOn, IsRead, NoneFirst, ReadAs, SourceValue, given, held_in, held_of, last_given, time_in, time_of, unread}
 use Rattle.nbt_look.specs.Totals.{last_text}
 use Rattle.nbt_look.specs.Wanted.{is_enough}
@@ -89,10 +89,10 @@ merges_filled : (mids news : List SourceValue) (frames : ℕ → List FrameValue
     → MergesOn mids frames merged → MergesOn news frames merged
 merges_filled mids news frames merged long fills m more may =
     let fill : (i : ℕ) → FillsOf (slice_get mids i) (slice_get news i) =
-        λ i. fills_at mids news i (slice_get mids i) (slice_get news i) long fills refl refl in
+    λ i. fills_at mids news i (slice_get mids i) (slice_get news i) long fills refl refl in
     let wider : ℕ → List FrameValue = λ i. gained (slice_get mids i) (held news i) ++ more i in
     let same : with_more (held mids) wider ≡ with_more (held news) more =
-        same_files (with_more (held mids) wider) (with_more (held news) more) (λ i. held_gained (slice_get mids i) (slice_get news i) (more i) (fill i)) in
+    same_files (with_more (held mids) wider) (with_more (held news) more) (λ i. held_gained (slice_get mids i) (slice_get news i) (more i) (fill i)) in
     subst (λ (rest : ℕ → List FrameValue). Merges (with_more frames rest) merged rest) same
     (m wider (λ i. may_gained (slice_get mids i) (slice_get news i) (more i) (fill i) (may i)))
 
@@ -213,10 +213,10 @@ merges_given news frames merged at s found shows here first waits time was m mor
     let old_may = may_before news at s first.time more here waits may in
     let taken = is_taken news at s found.frame here was in
     let left_same : without at before ≡ after =
-        same_files (without at before) after (λ i. left_at at found.frame (held news) (held (set news at (given s))) more taken i (nat_eq i at) refl) in
+    same_files (without at before) after (λ i. left_at at found.frame (held news) (held (set news at (given s))) more taken i (nat_eq i at) refl) in
     let whole_same : with_more frames before ≡ with_more (added at found.frame frames) after =
-        same_files (with_more frames before) (with_more (added at found.frame frames) after)
-        (λ i. whole_at at found.frame frames (held news) (held (set news at (given s))) more taken i (nat_eq i at) refl) in
+    same_files (with_more frames before) (with_more (added at found.frame frames) after)
+    (λ i. whole_at at found.frame frames (held news) (held (set news at (given s))) more taken i (nat_eq i at) refl) in
     subst (λ (whole : ℕ → List FrameValue). Merges whole (merged ++ found.frame ∷ []) after) whole_same
     (subst (λ (rest : ℕ → List FrameValue). Merges (with_more frames before) (merged ++ found.frame ∷ []) rest) left_same
     (merges_more (with_more frames before) before merged at found.frame (m more old_may)
@@ -247,7 +247,7 @@ are_given olds news frames at s time found here waits last reads i old new is_ol
         let same : i ≡ at = eqb-true i at is in
         let was : slice_get news i ≡ Some s = ap (slice_get news) same ∙ here in
         let now : slice_get (set news at (given s)) i ≡ Some (given s) =
-            ap (slice_get (set news at (given s))) same ∙ set_here news at (given s) (slice_get_within news at s here) in
+        ap (slice_get (set news at (given s))) same ∙ set_here news at (given s) (slice_get_within news at s here) in
         let is_given : given s ≡ new = cc (now, is_new) in
         subst (λ (x : SourceValue). IsRead old x (frames i ++ found.frame ∷ [])) is_given
         (read_given s.waiting old s (frames i) time found refl waits last (reads i old s is_old was))
@@ -448,8 +448,7 @@ not_printed w olds news number old new final out so_far after writes written las
     let m = f.merging in
     let turn = turn_of news at s f.shows first here in
     let p = prints turn.found turn.last in
-    subst (λ (x : SourceValue). PrintsMerged w olds (set news at x) out after writes last final (Err Write)) (sym same)
-    (
+    subst (λ (x : SourceValue). PrintsMerged w olds (set news at x) out after writes last final (Err Write)) (sym same) (
       new,
       m.text ++ p.0,
       m.merged ++ turn.found.frame ∷ [],
@@ -461,8 +460,7 @@ not_printed w olds news number old new final out so_far after writes written las
     let m = f.merging in
     let turn = turn_of news at s f.shows first here in
     let kept : set news at t ≡ news = ap (set news at) same ∙ same_set news at s here in
-    subst (λ (xs : List SourceValue). PrintsMerged w olds xs out after writes last final (Err NoMemory)) (sym kept)
-    (
+    subst (λ (xs : List SourceValue). PrintsMerged w olds xs out after writes last final (Err NoMemory)) (sym kept) (
       old,
       m.text,
       m.merged,

@@ -1,11 +1,9 @@
 -- Files that are read side by side.
 use Rattle.std.proofs.Common.{◌≡◌, ◌≢◌, ◌∙◌, ◌⊎◌, inl, inr, ◌<◌, ◌≤◌, ◌+◌, ◌++◌, ◌∷◌, ℕ, zero, suc, Bool, true, false, cond, List, [], length, set, slice_get, Option, Some, None, Result, Ok, Err, ap, refl, sym, subst, arith}
-use Rattle.std.specs.Io.KnownBytes.{Consumes}
 use Rattle.std.proofs.lemmas.Bool.{cases_eq, cases_lt}
 use Rattle.std.proofs.lemmas.Bool.Decides.{nat_tests}
 use Rattle.std.proofs.lemmas.List.{append-nil, length-append, length-set}
 use Rattle.std.proofs.lemmas.Option.{slice_get_past, slice_get_within}
-use Rattle.nb_streams.specs.Counted.{Counts as Calls}
 use Rattle.nb_streams.specs.Devices.{GrowTo}
 use Rattle.nb_streams.specs.DeviceFacts.{Consumes-more, Consumes-nil, grows_on}
 use Rattle.nb_pcap.specs.declared.context.Context.TheVariants.{Beginning}
@@ -13,8 +11,7 @@ use Rattle.nb_pcap.specs.declared.fault.FileFault.{FileFault}
 use Rattle.nb_pcap.specs.declared.file_reading.Standing.{Standing}
 use Rattle.nb_pcap.specs.File.{Spells, no_part}
 use Rattle.nb_pcap.specs.Frame.{FrameValue}
-use Rattle.nb_pcap.specs.Reading.{GivesAgain, Numbered, ReadsFrom, ReadsOn, last_of}
-use Rattle.nbt_look.specs.declared.printing.Ending.TheVariants.{Whole, Stopped}
+use Rattle.nb_pcap.specs.Reading.{GivesAgain, Numbered, ReadsFrom, ReadsOn}
 use Rattle.nbt_look.specs.declared.sources.Waiting.{Waiting}
 use Rattle.nbt_look.specs.declared.sources.Waiting.TheVariants.{Unread, Frame, Ended}
 use Rattle.nbt_look.specs.Sources.{AreRead, Fills, FillsAll, FillsFrom, IsFirst, IsOn, IsRead, NoneFirst, ReadAs, SourceValue, earlier_of, time_of, unread, waiting_after}
@@ -103,7 +100,7 @@ fill_from : (w : Waiting) (old mid new : SourceValue) (frames : List FrameValue)
 fill_from Unread old mid new frames is r (result, reads, waits) =
     let on : IsOn mid.file r.got frames = subst (λ (w : Waiting). ReadAs w old.calls mid r.got frames) is r.reads in
     let step : ReadsOn mid.file mid.known new.known mid.calls new.calls result new.file =
-        subst (λ (s : Standing). ReadsFrom s mid.file mid.known new.known mid.calls new.calls result new.file) on.on reads.0 in
+    subst (λ (s : Standing). ReadsFrom s mid.file mid.known new.known mid.calls new.calls result new.file) on.on reads.0 in
     let all = read_on result old mid new r.got frames r.grow on step reads.1 in (
       record {
         got = r.got ++ step.got;
@@ -239,6 +236,7 @@ best_other sources k at e t best here not = record {
         let at_i : time_of (slice_get sources i) ≡ Some e = ap (λ (j : ℕ). time_of (slice_get sources j)) same ∙ best.stands in
         let equal : e ≡ other = cc (at_i, is) in subst (λ (x : Option ℕ). comes_first x t ≡ false) equal not
     by_place i other lt le is (inr apart) = falls_later e other t (best.later i other (omega (arith, le, apart)) lt is) not
+
     by_order : (i : ℕ) (other : Option ℕ) → i < k → time_of (slice_get sources i) ≡ Some other → (i < at) ⊎ (at ≤ i) → comes_first other t ≡ false
     by_order i other lt is (inl less) = falls_earlier other e t (best.earlier i other less is) not
     by_order i other lt is (inr le) = by_place i other lt le is (cases_eq i at)

@@ -12,7 +12,6 @@ use Rattle.nb_pcap.specs.File.{Spells}
 use Rattle.nb_pcap.specs.Frame.{FrameValue}
 use Rattle.nb_pcap.specs.Reading.{FileValue, Numbered, ReadsFrame, last_of, nothing_read}
 use Rattle.nb_pcap.specs.Steps.{Stops}
-use Rattle.nbt_look.specs.declared.printing.Ending.{Ending}
 use Rattle.nbt_look.specs.declared.printing.Ending.TheVariants.{Whole, Enough, Stopped}
 use Rattle.nbt_look.specs.declared.sources.Waiting.{Waiting}
 use Rattle.nbt_look.specs.declared.sources.Waiting.TheVariants.{Unread, Frame, Ended}

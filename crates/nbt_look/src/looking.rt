@@ -19,7 +19,11 @@ use std::io::{BufWriter, Read, Write};
 /// Shows these files, and answers the exit status.
 pub fn look_at_all(rt: &HostRuntime, titles: &[&str], asked: Asked) -> u8 {
     match titles {
-        [] => misuse(rt, "FILE", "none is given: give one, or - for standard input"),
+        [] => misuse(
+            rt,
+            "FILE",
+            "none is given: give one, or - for standard input",
+        ),
         [title] => look_at(rt, title, asked),
         _ => look_at_several(rt, titles, asked),
     }

@@ -1,4 +1,4 @@
-use Rattle.std.proofs.Common.{ap, ◌∙◌, Bool}
+use Rattle.std.proofs.Common.{ap, ◌∙◌}
 use Rattle.nbt_look.specs.Hearing.{Hearing}
 use Rattle.nbt_look.proofs.NamingLemmas.{conflict_in, named_in, status_in}
 use Rattle.nbt_look.proofs.hearing.hear.Goals as goal

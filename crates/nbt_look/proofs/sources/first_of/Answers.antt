@@ -1,7 +1,7 @@
 use Rattle.std.proofs.Common.{Some, arith, ap, sym, ◌∙◌}
 use Rattle.std.proofs.lemmas.Option.{slice_get-get_or}
 use Rattle.nbt_look.specs.Sources.{time_of}
-use Rattle.nbt_look.proofs.SourcesLemmas.{best_next, first_of_all, none_of_all}
+use Rattle.nbt_look.proofs.SourcesLemmas.{best_next}
 use Rattle.nbt_look.proofs.sources.first_of.Goals as goal
 
 pub loop-at-preserved : goal.loop-at-preserved

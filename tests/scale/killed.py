@@ -17,10 +17,10 @@ sys.path.insert(1, f'{sys.path[0]}/../lib')
 from parts import tally
 
 PYTHON, TOOL, PROGRAM, ROOM, PART = sys.argv[1:]
-# A run of some seconds, and how many it may take on a busy machine: more than the longest wait of the tool, which has 60 by itself.
-PATIENCE = 150
+# A run of some seconds, and how many it may take on a busy machine.
+PATIENCE = 60
 RUNS = 12
-WAITING = 'nbt-dask: the scheduler of this run has no workers: waiting {} seconds for one\n'
+WAITING = "nbt-dask: the scheduler of this run has no workers: waiting 60 seconds for one\n"
 
 
 class Run:
@@ -152,7 +152,7 @@ def killed(rng):
             os.kill(rng.choice(workers), signal.SIGKILL)
             hit.append(round(moment, 2))
     status = run.wait()
-    found = status, run.errors().replace(WAITING.format(60), ''), run.left(), run.made('table')
+    found = status, run.errors().replace(WAITING, ''), run.left(), run.made('table')
     print(f'killed after {hit} s: status {status} after {time.monotonic() - began:.1f} s', file=sys.stderr)
     return None if hit and found == (0, '', [], True) else f'{found}, killed after {hit} s'
 
@@ -169,7 +169,7 @@ def one_stopped():
 def deadly():
     """A program that kills its worker each time ends the run with a line."""
     run = Run('gaps', '--workers', '2', program=f'{ROOM}/deadly')
-    found = run.wait(), run.errors().replace(WAITING.format(60), ''), run.left(), (run.folder / 'out').exists()
+    found = run.wait(), run.errors().replace(WAITING, ''), run.left(), (run.folder / 'out').exists()
     wanted = 3, f'nbt-dask: {ROOM}/gaps: lines 1 to 4440 (shard g0000-000000): each worker that tried it died\n', [], False
     return None if found == wanted else f'{found}, not {wanted}'
 
@@ -190,8 +190,7 @@ def hangs():
 
 
 def idle(run, status):
-    # On a busy machine a worker that stands still counts as lost before.
-    found = status, run.errors().replace(WAITING.format(3), ''), run.left(), (run.folder / 'out').exists()
+    found = status, run.errors(), run.left(), (run.folder / 'out').exists()
     wanted = 3, 'nbt-dask: the workers of the scheduler of this run ended no task, 3 seconds long (--wait)\n', [], False
     return None if found == wanted else f'{found}, not {wanted}'
 

@@ -1,4 +1,4 @@
-//! What is heard of a packet whose fields are told: whether it has a name that is wanted, and what
+//! What the fields of a packet say: whether it has a name that is wanted, and what
 //! says of which kinds it is.
 ghost use Rattle.std.specs.Prelude.{◌≡◌, IfOk};
 ghost use Rattle.std.specs.List.{list_any};
@@ -129,7 +129,7 @@ impl<'a> Sink for HearingSink<'a> {
     }
 }
 
-/// Whether digits that are told under this tag are the type of a node's status (RFC 1002 section
+/// Whether digits of a field with this tag are the type of a node's status (RFC 1002 section
 /// 4.2.1.3).
 fn is_status_type(tag: &str, digits: &[u8]) -> bool
     ensures { result ≡ is_status_type tag.now digits.now }
@@ -137,7 +137,7 @@ fn is_status_type(tag: &str, digits: &[u8]) -> bool
     tag == "type" && digits == b"\x00\x21".as_slice()
 }
 
-/// Whether flags that are told under this tag say that a node's name is in conflict (section
+/// Whether flags of a field with this tag say that a node's name is in conflict (section
 /// 4.2.18).
 fn is_in_conflict(tag: &str, flags: &[Flag]) -> bool
     ensures { result ≡ is_in_conflict tag.now (names_of flags.now) }

@@ -1,5 +1,5 @@
 -- Covers of pieces (our choice): what several pieces say together, and what one more changes.
-use Rattle.std.specs.Prelude.{◌≡◌, ◌≢◌, ℕ, List, fold, Option, Some, None}
+use Rattle.std.specs.Prelude.{◌≡◌, ◌≢◌, ◌<◌, ℕ, List, fold, length, slice_get, Option, Some, None}
 use Rattle.std.specs.FinMap as maps
 use Rattle.nb_entries.specs.declared.outline.Change.TheVariants.{Spoilt, Whole, Same, Grown}
 use Rattle.nb_entries.specs.Maps.{Spoilt as Clashed, Held}
@@ -25,6 +25,11 @@ cover_of_pieces = fold with_piece (Held no_facts)
 abbrev pub data_of : CoverValue → Option (List ℕ)
 data_of Clashed = None
 data_of (Held c) = bytes_to c.bytes c.marks.end
+
+-- IsData c xs: xs are as many bytes as the end of c says, and each is the byte of c at its place
+pub record IsData (c : CoverFacts) (xs : List ℕ) : Type 0 where
+  pub ends : c.marks.end ≡ Some (length xs)
+  pub bytes : (i : ℕ) → i < length xs → maps.get c.bytes i ≡ slice_get xs i
 
 -- CoverChange a b c: a cover was a and is b; c is what changed: it became clashed; it became whole, with this data; nothing; or more
 -- is known, and it became neither

@@ -129,11 +129,7 @@ impl CoverFacts {
 
     /// Inserts what a piece says, which doesn't contradict what is known. All memory is taken
     /// before anything changes.
-    pub(crate) fn insert(
-        &mut self,
-        alloc: Global,
-        piece: &Piece<'_>,
-    ) -> Result<(), NoMemory>
+    pub(crate) fn insert(&mut self, alloc: Global, piece: &Piece<'_>) -> Result<(), NoMemory>
         requires { CoversFit self.old (piece_cover piece.now) }
         ensures ok { OnOk result
             (self.new ≡ covers_together self.old (piece_cover piece.now)) }

@@ -1,5 +1,5 @@
 //! Covers that grow by pieces.
-ghost use Rattle.std.specs.Prelude.{◌≡◌, IfOk, OnOk, OnErr};
+ghost use Rattle.std.specs.Prelude.{◌≡◌, IfOk, OnOk, OnErr, is_some};
 ghost use Rattle.nb_entries.specs.Maps.{Held};
 ghost use Rattle.nb_entries.specs.Cover.{CoversFit, covers_together, piece_cover};
 ghost use Rattle.nb_entries.specs.Whole.{newly};
@@ -47,6 +47,17 @@ impl Slot<CoverFacts> {
             return Ok(Change::Spoilt);
         }
         facts.grow(alloc, piece)
+    }
+
+    /// Whether it isn't clashed, and its end and each byte before it are known: whether it has
+    /// data. No memory is taken.
+    pub fn is_whole(&self) -> bool
+        ensures { result ≡ is_some (data_of self.now) }
+    {
+        match self {
+            Slot::Held(facts) => facts.is_whole(),
+            Slot::Spoilt => false,
+        }
     }
 }
 

@@ -1,11 +1,13 @@
 -- What a piece changes in a cover.
-use Rattle.nb_entries.proofs.Common.{◌≡◌, ◌↔◌, Bool, true, false, ℕ, List, length, get_or, Option, Some, None, refl, sym, ◌∙◌, ap, arith, slice_get-get_or, CoverFacts, CoversFit, covers_together, Held, Holds, bytes_to, newly, below_found, below_from, take_all}
+use Rattle.nb_entries.proofs.Common.{◌≡◌, ◌≤◌, ◌↔◌, Bool, true, false, ℕ, List, length, get_or, Option, Some, None, refl, sym, ◌∙◌, ap, arith, slice_get-get_or, CoverFacts, CoversFit, covers_together, Held, Holds, bytes_to, newly, below_found, below_from, take_all, ◌+◌, [], ◌∷◌, cond, subst, nat_cmp, nat_cmp_total, Spoilt, CoverValue, PieceParts, piece_cover, with_bytes, fit_of}
+use Rattle.std.specs.FinMap as maps
 use Rattle.std.specs.Prelude.{IsTrue, is_some}
 use Rattle.nb_entries.specs.Whole.{IsWholeCover}
 use Rattle.nb_entries.specs.Change.{grown_to}
-use Rattle.nb_entries.specs.CoverChange.{CoverChange, IsData, data_of}
+use Rattle.nb_entries.specs.CoverChange.{known_of, with_piece, CoverChange, IsData, data_of}
 use Rattle.nb_entries.specs.Shared.WholeLemmas.{below_covered}
-use Rattle.nb_entries.proofs.Covers.{together_holds}
+use Rattle.nb_entries.specs.Cover.{covers_agree}
+use Rattle.nb_entries.proofs.Covers.{together_holds, with_is}
 
 -- the data of a cover is its bytes up to its end
 data_is : (c : CoverFacts) (xs : List ℕ) → data_of (Held c) ≡ Some xs → IsData c xs
@@ -65,3 +67,27 @@ tells_data false c h = at (data_of (Held c)) refl
     at : (o : Option (List ℕ)) → data_of (Held c) ≡ o → false ≡ is_some o
     at None e = refl
     at (Some xs) e = let clash = h.1 (data_whole c xs e) in absurd (cc)
+
+-- ---- how many places a piece adds
+
+insert_len : (m : maps.FinMap nat_cmp ℕ) (i x : ℕ) → maps.len (maps.insert m i x) ≤ maps.len m + 1
+insert_len m i x = at (maps.contains_key m i) (maps.len-insert nat_cmp_total m i x)
+  where
+    at : (b : Bool) → maps.len (maps.insert m i x) ≡ cond b (maps.len m) (maps.len m + 1) → maps.len (maps.insert m i x) ≤ maps.len m + 1
+    at true e = omega (arith, e)
+    at false e = omega (arith, e)
+
+put_len : (m : maps.FinMap nat_cmp ℕ) (i : ℕ) (xs : List ℕ) → maps.len (with_bytes m i xs) ≤ maps.len m + length xs
+put_len m i [] = omega arith
+put_len m i (x ∷ xs) = let rest = put_len (maps.insert m i x) (i + 1) xs in let one = insert_len m i x in omega (arith, rest, one)
+
+pub known_more : (c : CoverValue) (p : PieceParts) → known_of (with_piece c p) ≤ known_of c + length p.bytes
+known_more Spoilt p = omega arith
+known_more (Held a) p = at (covers_agree a (piece_cover p)) refl
+  where
+    at : (b : Bool) → covers_agree a (piece_cover p) ≡ b → known_of (cond b (Held (covers_together a (piece_cover p))) Spoilt) ≤ maps.len a.bytes + length p.bytes
+    at true e =
+        let fit = fit_of a (piece_cover p) e in
+        let put = put_len a.bytes p.offset p.bytes in
+        subst (λ (t : CoverFacts). maps.len t.bytes ≤ maps.len a.bytes + length p.bytes) (with_is a p fit) put
+    at false e = omega arith

@@ -21,6 +21,11 @@ with_piece c p = join_cover c (Held (piece_cover p))
 abbrev pub cover_of_pieces : List PieceParts → CoverValue
 cover_of_pieces = fold with_piece (Held no_facts)
 
+-- how many places have a byte in a cover
+abbrev pub known_of : CoverValue → ℕ
+known_of Clashed = 0
+known_of (Held c) = maps.len c.bytes
+
 -- the data of a cover, if it is whole: its bytes up to its end
 abbrev pub data_of : CoverValue → Option (List ℕ)
 data_of Clashed = None

@@ -4,7 +4,7 @@
 //! called.
 #![tactic(auto, using(crate::proofs::LawLemmas::laws))]
 
-ghost use Rattle.std.specs.Prelude.{◌≡◌, ℕ, ◌↔◌, IsTrue, Some, List};
+ghost use Rattle.std.specs.Prelude.{◌≡◌, ℕ, ◌↔◌, IsTrue, Some, List, ◌≤◌, ◌+◌, length};
 ghost use Rattle.std.specs.FinMap as maps;
 ghost use Rattle.nb_entries.specs.Marks.{GoesOnFrom, Promises};
 ghost use Rattle.nb_entries.specs.Cover.{CoverFacts, CoverValue, join_cover, IsCover};
@@ -14,7 +14,7 @@ ghost use Rattle.nb_datagram.specs.Fragment.{Core, Covers, DatagramParts};
 ghost use Rattle.nb_datagram.specs.declared.key.Key.{Key};
 ghost use Rattle.nb_entries.specs.Maps.{Held};
 ghost use Rattle.nb_entries.specs.Piece.{PieceParts};
-ghost use Rattle.nb_entries.specs.CoverChange.{IsData, data_of, with_piece};
+ghost use Rattle.nb_entries.specs.CoverChange.{IsData, data_of, known_of, with_piece};
 ghost use Rattle.nb_entries.specs.Whole.{IsDatagram, datagram_of, IsAwaited, awaited_of};
 ghost use Rattle.std.specs.Ordering.{nat_cmp};
 ghost use Rattle.nb_entries.specs.Runs.{RunValue, AreApart, map_of_runs, runs_of_map, AreRangesOf, ranges_of_map};
@@ -105,6 +105,13 @@ pub fn pieces_may_come_in_any_order()
 #[tactic(auto, using(crate::proofs::LawLemmas::piece_again))]
 pub fn a_piece_again_changes_nothing()
     ensures { (c : CoverValue) (p : PieceParts) → with_piece (with_piece c p) p ≡ with_piece c p }
+{}
+
+/// A piece adds at most as many places as it has bytes.
+#[tactic(auto, using(crate::proofs::CoverChanges::known_more))]
+pub fn a_piece_adds_at_most_its_bytes()
+    ensures { (c : CoverValue) (p : PieceParts) →
+        known_of (with_piece c p) ≤ known_of c + length p.bytes }
 {}
 
 /// The data of a cover is its bytes up to its end, in order.

@@ -14,17 +14,18 @@ pub use Rattle.nb_datagram.specs.Fragment.{Core, Covers, DatagramParts, Fragment
 pub use Rattle.nb_datagram.specs.declared.limits.TheConstants.{MAX_LENGTH}
 pub use Rattle.nb_entries.specs.Code.CoverFacts.{Holds, is_there, with_bytes}
 pub use Rattle.nb_entries.specs.Code.Rows.{Agree, AgreeOne, AreBetween, AreFilled, EndBefore, EndBy, EndFrom, IsFrom, IsPut, Lacks, LastsTo, Meet, NoneEmpty, RowThere, StartAfter, StartTo, after_run, byte_in, grown, held_in, kept_values, last_end, look_in, row_of, run_at, run_of, runs_in, value_of, values_in, values_of}
-pub use Rattle.nb_entries.specs.Cover.{AreCoverFacts, BytesBelow, CoverFacts, CoverValue, CoversFit, IsCover, bytes_agree, bytes_lie_below, cover_of, covers_together, join_cover, placed}
+pub use Rattle.nb_entries.specs.Cover.{AreCoverFacts, BytesBelow, CoverFacts, CoverValue, CoversFit, IsCover, bytes_agree, bytes_lie_below, cover_of, covers_together, join_cover, piece_cover, placed}
 pub use Rattle.nb_entries.specs.Entry.{EntryFacts, EntryValue, FactsFit, facts_agree, facts_of, facts_together, join_entry}
 pub use Rattle.nb_entries.specs.Maps.{Held, Spoilt, first_of, union}
-pub use Rattle.nb_entries.specs.Marks.{GoesOnFrom, Marks, Promises, marks_of, marks_together, no_marks, same_where}
+pub use Rattle.nb_entries.specs.Marks.{GoesOnFrom, Marks, Promises, marks_together, no_marks, piece_marks, same_where}
+pub use Rattle.nb_entries.specs.Piece.{PieceParts, piece_of, piece_reach}
 pub use Rattle.nb_entries.specs.Runs.{AreApart, AreRangesOf, OneHas, RangesApart, RunValue, StartPast, StartsPast, map_of_runs, places_of, range_of, ranges_of_map, run_end, runs_of_map}
 pub use Rattle.nb_entries.specs.SavedReading.{Outcome, PromisesBelow, Then, bad, cut, end_at, gives, goes_on, good, ill, is_0, is_1, is_neither, known, promise_at, row_at, stands, stops, unknown, whole}
 pub use Rattle.nb_entries.specs.Shared.CoverLemmas.{agree_of, bytes_below_decides, covers_unite, fit_of, formed_agrees, in_union, same_cover, together_held}
 pub use Rattle.nb_entries.specs.Shared.EntryLemmas.{facts_agree_of, facts_fit_of, join_cover_formed, join_entry-assoc, join_entry-comm, join_entry-idem}
 pub use Rattle.nb_entries.specs.Shared.MapsLemmas.{all_append, all_entries_found, all_entries_from, get-union, none_from, one_key, sorted_entries}
 pub use Rattle.nb_entries.specs.Shared.MarksLemmas.{at_same, either_first, first_alone, first_either, first_of_three, one_value, same_at}
-pub use Rattle.nb_entries.specs.Shared.PlacedLemmas.{cover_of_formed, covers_below, find-append, find-placed, taken}
+pub use Rattle.nb_entries.specs.Shared.PlacedLemmas.{cover_of_formed, piece_formed, covers_below, find-append, find-placed, taken}
 pub use Rattle.nb_entries.specs.Shared.PuttingLemmas.{after, begun, broken, done, stop, turn}
 pub use Rattle.nb_entries.specs.Shared.RowLemmas.{covers_formed, map_below, places_in_map, row_long, row_next, row_short, run_below, whole_row}
 pub use Rattle.nb_entries.specs.Shared.RunsLemmas.{given_back, one_row, places-runs, runs_apart, runs_back, sorted_placed}

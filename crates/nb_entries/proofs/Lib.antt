@@ -1,5 +1,6 @@
 mod Common
 mod Changes
+mod CoverChanges
 mod Covers
 mod KeptRuns
 mod Runs

@@ -6,7 +6,8 @@ use Rattle.std.specs.Ordering.{nat_cmp}
 use Rattle.std.specs.List.{list_all}
 use Rattle.std.specs.FinMap as map
 use Rattle.nb_datagram.specs.Fragment.{Core}
-use Rattle.nb_entries.specs.Marks.{Marks, marks_of, marks_together, MarksFit, marks_agree, MarksBelow, marks_lie_below, same_where}
+use Rattle.nb_entries.specs.Piece.{PieceParts, piece_of}
+use Rattle.nb_entries.specs.Marks.{Marks, piece_marks, marks_together, MarksFit, marks_agree, MarksBelow, marks_lie_below, same_where}
 use Rattle.nb_entries.specs.Maps.{union, Slot, join_slot, OnHeld}
 
 -- the bytes by place, and the marks
@@ -79,6 +80,10 @@ abbrev pub placed : ℕ → List ℕ → List (ℕ × ℕ)
 placed i [] = []
 placed i (x ∷ xs) = (i, x) ∷ placed (i + 1) xs
 
+-- what one piece says of its data
+abbrev pub piece_cover : PieceParts → CoverFacts
+piece_cover p = record { bytes = map.from_entries (placed p.offset p.bytes); marks = piece_marks p }
+
 -- what one fragment says of its datagram's data
 abbrev pub cover_of : Core → CoverFacts
-cover_of f = record { bytes = map.from_entries (placed f.offset f.bytes); marks = marks_of f }
+cover_of f = piece_cover (piece_of f)

@@ -1,10 +1,12 @@
 pub mod Maps
+pub mod Piece
 pub mod Marks
 pub mod Cover
 pub mod Entry
 pub mod Codes
 pub mod Whole
 pub mod Change
+pub mod CoverChange
 pub mod EntryState
 pub mod Runs
 pub mod Equal

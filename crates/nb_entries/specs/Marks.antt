@@ -5,7 +5,8 @@ use Rattle.std.specs.Prelude.{◌≡◌, ◌==◌, ◌&&◌, ◌++◌, ◌<◌, 
 use Rattle.std.specs.Int.{w16, to_be_bytes}
 use Rattle.std.specs.Option.{option_eq}
 use Rattle.std.specs.Coded.{Coded, code_by, coded×, coded_ℕ, coded_option}
-use Rattle.nb_datagram.specs.Fragment.{Core, end_of_one, Covers, reach}
+use Rattle.nb_datagram.specs.Fragment.{Core, Covers, reach}
+use Rattle.nb_entries.specs.Piece.{PieceParts, piece_reach, piece_of}
 use Rattle.nb_entries.specs.declared.saved.SavedForm.{SavedForm}
 use Rattle.nb_entries.specs.declared.saved.SavedForm.TheVariants.{First, Second}
 pub use Rattle.nb_entries.specs.declared.cover.marks.Marks.{Marks}
@@ -40,9 +41,13 @@ pub record GoesOnFrom (f : Core) (r : ℕ) : Type 0 where
 abbrev pub no_marks : Marks
 no_marks = record { end = None; promise = None }
 
+-- what one piece says: its reach is the end, where no more follow, and else its promise
+abbrev pub piece_marks : PieceParts → Marks
+piece_marks p = record { end = cond p.more None (Some (piece_reach p)); promise = cond p.more (Some (piece_reach p)) None }
+
 -- what one fragment says: where it ends, if it does, and what it promises, if it does
 abbrev pub marks_of : Core → Marks
-marks_of f = record { end = end_of_one f; promise = promise_of_one f }
+marks_of f = piece_marks (piece_of f)
 
 -- what two that don't contradict each other say together: the end that there is, and the greater promise
 abbrev pub marks_together : Marks → Marks → Marks

@@ -6,7 +6,7 @@ ghost use Rattle.std.specs.FinMap as maps;
 ghost use Rattle.nb_datagram.specs.Fragment.{core_of};
 ghost use Rattle.nb_entries.specs.Maps.{Held};
 ghost use Rattle.nb_datagram.specs.declared.limits.TheConstants.{MAX_LENGTH};
-ghost use Rattle.nb_entries.specs.Cover.{BytesBelow, CoversFit, cover_of, covers_agree, covers_together, is_below_end, bytes_lie_below, AreCoverFacts, CoverFacts};
+ghost use Rattle.nb_entries.specs.Cover.{BytesBelow, CoversFit, cover_of, piece_cover, covers_agree, covers_together, is_below_end, bytes_lie_below, AreCoverFacts, CoverFacts};
 ghost use Rattle.nb_entries.specs.Code.CoverFacts.{Holds};
 ghost use Rattle.nb_entries.specs.Runs.{runs_of_map, ranges_of_map, map_of_runs};
 ghost use Rattle.nb_entries.specs.Whole.{bytes_to, IsWholeCover, awaited_of};
@@ -18,16 +18,18 @@ ghost use Rattle.nb_entries.specs.Shared.EqualLemmas.{cover_facts_per, cover_fac
 ghost use Rattle.nb_entries.specs.Equal.{same_cover_facts};
 
 pub(crate) mod marks;
+mod piecing;
 pub(crate) mod runs;
 mod uniting;
 
+use crate::piece::Piece;
 use crate::ranges::Ranges;
 use crate::saved::ByteSink;
 use crate::saved::fields::put_marks;
 use crate::saved::runs::SavedRuns;
 use crate::slot::Slot;
 use marks::{Marks, is_below};
-use nb_datagram::{Fragment, LentFragment};
+use nb_datagram::Fragment;
 use nb_streams::{Bytes, NoMemory};
 use runs::Runs;
 use std::alloc::Global;
@@ -69,18 +71,18 @@ impl Slot<CoverFacts> {
     pub fn of(alloc: Global, fragment: &Fragment<'_>) -> Result<Cover, NoMemory>
         ensures { IfOk result (λ cover. cover ≡ Held (cover_of (core_of fragment.now))) }
     {
-        Ok(Slot::Held(CoverFacts::of(alloc, &fragment.lent())?))
+        Ok(Slot::Held(CoverFacts::of(alloc, &Piece::of(&fragment.lent()))?))
     }
 }
 
 impl CoverFacts {
-    /// What a fragment says.
-    pub(crate) fn of(alloc: Global, fragment: &LentFragment<'_>) -> Result<CoverFacts, NoMemory>
-        ensures { IfOk result (λ cover. cover ≡ cover_of (core_of fragment.now)) }
+    /// What a piece says.
+    pub(crate) fn of(alloc: Global, piece: &Piece<'_>) -> Result<CoverFacts, NoMemory>
+        ensures { IfOk result (λ cover. cover ≡ piece_cover piece.now) }
     {
         let mut bytes = Runs::new(alloc);
-        bytes.insert(alloc, u32::from(fragment.offset()), fragment.bytes())?;
-        let marks = Marks::of(fragment);
+        bytes.insert(alloc, piece.start(), piece.bytes())?;
+        let marks = Marks::of(piece);
         Ok(CoverFacts { bytes, marks })
     }
 
@@ -101,63 +103,59 @@ impl CoverFacts {
         }
     }
 
-    /// Whether a fragment doesn't contradict what is known.
-    pub(crate) fn agrees_with(&self, fragment: &LentFragment<'_>) -> bool
-        ensures { result ≡ covers_agree self.now (cover_of (core_of fragment.now)) }
+    /// Whether a piece doesn't contradict what is known.
+    pub(crate) fn agrees_with(&self, piece: &Piece<'_>) -> bool
+        ensures { result ≡ covers_agree self.now (piece_cover piece.now) }
     {
-        let start = u32::from(fragment.offset());
-        let said = Marks::of(fragment);
+        let start = piece.start();
+        let said = Marks::of(piece);
         self.marks.agree(said)
             && self.is_below(said.end)
-            && is_below(fragment, self.marks.end)
-            && self.bytes.agree(start, fragment.bytes())
+            && is_below(piece, self.marks.end)
+            && self.bytes.agree(start, piece.bytes())
     }
 
-    /// Whether all that a fragment says is known.
-    pub(crate) fn holds(&self, fragment: &LentFragment<'_>) -> bool
-        ensures { IsTrue result ↔ Holds self.now (cover_of (core_of fragment.now)) }
+    /// Whether all that a piece says is known.
+    pub(crate) fn holds(&self, piece: &Piece<'_>) -> bool
+        ensures { IsTrue result ↔ Holds self.now (piece_cover piece.now) }
     {
-        let known = self.marks.together(Marks::of(fragment));
+        let known = self.marks.together(Marks::of(piece));
         if !known.are(self.marks) {
             return false;
         }
-        let start = u32::from(fragment.offset());
-        self.bytes.hold(start, fragment.bytes())
+        let start = piece.start();
+        self.bytes.hold(start, piece.bytes())
     }
 
-    /// Inserts what a fragment says, which doesn't contradict what is known. All memory is taken
+    /// Inserts what a piece says, which doesn't contradict what is known. All memory is taken
     /// before anything changes.
-    pub(crate) fn insert(
-        &mut self,
-        alloc: Global,
-        fragment: &LentFragment<'_>,
-    ) -> Result<(), NoMemory>
-        requires { CoversFit self.old (cover_of (core_of fragment.now)) }
+    pub(crate) fn insert(&mut self, alloc: Global, piece: &Piece<'_>) -> Result<(), NoMemory>
+        requires { CoversFit self.old (piece_cover piece.now) }
         ensures ok { OnOk result
-            (self.new ≡ covers_together self.old (cover_of (core_of fragment.now))) }
+            (self.new ≡ covers_together self.old (piece_cover piece.now)) }
         ensures err { OnErr result (self.new ≡ self.old) }
     {
-        let start = u32::from(fragment.offset());
-        self.bytes.insert(alloc, start, fragment.bytes())?;
-        self.marks = self.marks.together(Marks::of(fragment));
+        let start = piece.start();
+        self.bytes.insert(alloc, start, piece.bytes())?;
+        self.marks = self.marks.together(Marks::of(piece));
         Ok(())
     }
 
-    /// The bytes up to the end, in order, of what is known with what a fragment says, which doesn't
+    /// The bytes up to the end, in order, of what is known with what a piece says, which doesn't
     /// contradict it, if all are known. No memory is taken where one isn't.
     pub(crate) fn whole_with(
         &self,
         alloc: Global,
-        fragment: &LentFragment<'_>,
+        piece: &Piece<'_>,
     ) -> Result<Option<Bytes>, NoMemory>
-        requires { CoversFit self.now (cover_of (core_of fragment.now)) }
+        requires { CoversFit self.now (piece_cover piece.now) }
         ensures { IfOk result (λ bytes. bytes
-            ≡ bytes_to (covers_together self.now (cover_of (core_of fragment.now))).bytes
-            (covers_together self.now (cover_of (core_of fragment.now))).marks.end) }
+            ≡ bytes_to (covers_together self.now (piece_cover piece.now)).bytes
+            (covers_together self.now (piece_cover piece.now)).marks.end) }
     {
-        let start = u32::from(fragment.offset());
-        match self.marks.together(Marks::of(fragment)).end {
-            Some(end) => self.bytes.bytes_with(alloc, end, start, fragment.bytes()),
+        let start = piece.start();
+        match self.marks.together(Marks::of(piece)).end {
+            Some(end) => self.bytes.bytes_with(alloc, end, start, piece.bytes()),
             None => Ok(None),
         }
     }

@@ -19,6 +19,7 @@ mod reading;
 
 use crate::cover::CoverFacts;
 use crate::outline::{Change, Handing, State};
+use crate::piece::Piece;
 use crate::slot::Slot;
 use growing::grown_to;
 use nb_datagram::{Fragment, Kind, LentFragment, UserData};
@@ -117,7 +118,7 @@ impl EntryFacts {
     pub(crate) fn of(alloc: Global, fragment: &LentFragment<'_>) -> Result<EntryFacts, NoMemory>
         ensures { IfOk result (λ facts. facts ≡ facts_of (core_of fragment.now)) }
     {
-        let cover = CoverFacts::of(alloc, fragment)?;
+        let cover = CoverFacts::of(alloc, &Piece::of(fragment))?;
         let source = fragment.source();
         let destination = fragment.destination();
         EntryFacts::new(alloc, fragment.kind(), source, destination, cover)
@@ -130,7 +131,7 @@ impl EntryFacts {
         self.known.kind == fragment.kind()
             && self.source().is(fragment.source())
             && self.destination().is(fragment.destination())
-            && self.known.cover.agrees_with(fragment)
+            && self.known.cover.agrees_with(&Piece::of(fragment))
     }
 
     /// The datagram's data, if the facts are whole. No memory is taken where they aren't.

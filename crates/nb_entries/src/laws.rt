@@ -4,7 +4,7 @@
 //! called.
 #![tactic(auto, using(crate::proofs::LawLemmas::laws))]
 
-ghost use Rattle.std.specs.Prelude.{◌≡◌, ℕ, ◌↔◌, IsTrue, Some, List};
+ghost use Rattle.std.specs.Prelude.{◌≡◌, ℕ, ◌↔◌, IsTrue, Some, List, ◌≤◌, ◌+◌, length};
 ghost use Rattle.std.specs.FinMap as maps;
 ghost use Rattle.nb_entries.specs.Marks.{GoesOnFrom, Promises};
 ghost use Rattle.nb_entries.specs.Cover.{CoverFacts, CoverValue, join_cover, IsCover};
@@ -13,6 +13,8 @@ ghost use Rattle.nb_entries.specs.Equal.{same_cover, same_entry};
 ghost use Rattle.nb_datagram.specs.Fragment.{Core, Covers, DatagramParts};
 ghost use Rattle.nb_datagram.specs.declared.key.Key.{Key};
 ghost use Rattle.nb_entries.specs.Maps.{Held};
+ghost use Rattle.nb_entries.specs.Piece.{PieceParts};
+ghost use Rattle.nb_entries.specs.CoverChange.{IsData, data_of, known_of, with_piece};
 ghost use Rattle.nb_entries.specs.Whole.{IsDatagram, datagram_of, IsAwaited, awaited_of};
 ghost use Rattle.std.specs.Ordering.{nat_cmp};
 ghost use Rattle.nb_entries.specs.Runs.{RunValue, AreApart, map_of_runs, runs_of_map, AreRangesOf, ranges_of_map};
@@ -90,6 +92,32 @@ pub fn promised_place_is_past_the_covered()
 pub fn datagram_has_the_bytes_of_its_entry()
     ensures { (k : Key) (e : EntryFacts) (d : DatagramParts) →
         (datagram_of k (Held e) ≡ Some d) ↔ IsDatagram k e d }
+{}
+
+/// It makes no difference in which order two pieces are joined into a cover.
+#[tactic(auto, using(crate::proofs::LawLemmas::pieces_turned))]
+pub fn pieces_may_come_in_any_order()
+    ensures { (c : CoverValue) (p q : PieceParts) →
+        with_piece (with_piece c p) q ≡ with_piece (with_piece c q) p }
+{}
+
+/// A piece that is joined into a cover again changes nothing.
+#[tactic(auto, using(crate::proofs::LawLemmas::piece_again))]
+pub fn a_piece_again_changes_nothing()
+    ensures { (c : CoverValue) (p : PieceParts) → with_piece (with_piece c p) p ≡ with_piece c p }
+{}
+
+/// A piece adds at most as many places as it has bytes.
+#[tactic(auto, using(crate::proofs::CoverChanges::known_more))]
+pub fn a_piece_adds_at_most_its_bytes()
+    ensures { (c : CoverValue) (p : PieceParts) →
+        known_of (with_piece c p) ≤ known_of c + length p.bytes }
+{}
+
+/// The data of a cover is its bytes up to its end, in order.
+#[tactic(auto, using(crate::proofs::CoverChanges::data_exactly))]
+pub fn data_has_the_bytes_of_its_cover()
+    ensures { (c : CoverFacts) (xs : List ℕ) → (data_of (Held c) ≡ Some xs) ↔ IsData c xs }
 {}
 
 /// The runs of a map of bytes are apart, and ascend.

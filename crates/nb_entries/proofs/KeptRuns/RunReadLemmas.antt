@@ -1,5 +1,5 @@
 -- What the code reads of its runs.
-use Rattle.nb_entries.proofs.Common.{◌≡◌, ◌<◌, ◌≤◌, ◌+◌, ◌-◌, ◌++◌, ◌⊎◌, ℕ, inl, inr, Bool, true, List, [], ◌∷◌, length, take, drop, min, max, slice_get, Option, Some, refl, sym, ap, ◌∙◌, subst, arith, length-take, length-drop, length-append, ◌==◌, suc, ap₂, cases_lt, and_from, and_parts, append-nil, ext_get_or, same_Some, slice_get-get_or, unsigned_Decides, AllByRecursion, list_all, nat_cmp, first_of, RunValue, run_end, StartsPast, AreApart, map_of_runs, with_bytes, run_at, byte_in, look_in, Agree, AgreeOne, EndBefore, EndFrom, AreBetween, Lacks, IsFrom, run_of, after_run, row_of, first_either, agree_of, find-placed, slice_get-front, Core, Marks, same_where, marks_of, marks_together, CoverFacts, CoversFit, placed, cover_of, covers_together, bytes_below, bytes_to, none_from, all_append, append_assoc}
+use Rattle.nb_entries.proofs.Common.{◌≡◌, ◌<◌, ◌≤◌, ◌+◌, ◌-◌, ◌++◌, ◌⊎◌, ℕ, inl, inr, Bool, true, List, [], ◌∷◌, length, take, drop, min, max, slice_get, Option, Some, refl, sym, ap, ◌∙◌, subst, arith, length-take, length-drop, length-append, ◌==◌, suc, ap₂, cases_lt, and_from, and_parts, append-nil, ext_get_or, same_Some, slice_get-get_or, unsigned_Decides, AllByRecursion, list_all, nat_cmp, first_of, RunValue, run_end, StartsPast, AreApart, map_of_runs, with_bytes, run_at, byte_in, look_in, Agree, AgreeOne, EndBefore, EndFrom, AreBetween, Lacks, IsFrom, run_of, after_run, row_of, first_either, agree_of, find-placed, slice_get-front, PieceParts, Marks, same_where, piece_marks, marks_together, CoverFacts, CoversFit, placed, piece_cover, covers_together, bytes_below, bytes_to, none_from, all_append, append_assoc}
 use Rattle.std.specs.Cmp.Lexicographic.{pointwise, pointwise_decides}
 use Rattle.std.specs.FinMap as maps
 use Rattle.nb_entries.proofs.Covers.{get-with_bytes, bytes_agree_is, with_is}
@@ -177,18 +177,18 @@ empty_agrees m s [] h = refl
 empty_agrees m s (x ∷ xs) h = and_from _ _ (ap (λ o. same_where o x) (ap (λ n. maps.get n s) h ∙ maps.get-empty nat_cmp s)) (empty_agrees m (s + 1) xs h)
 
 -- what fits agrees byte by byte
-pub fit_agrees : (a : CoverFacts) (f : Core) (s : ℕ) (xs : List ℕ) → CoversFit a (cover_of f) → s ≡ f.offset → xs ≡ f.bytes → list_all (λ (e : ℕ × ℕ). same_where (maps.get a.bytes e.0) e.1) (placed s xs) ≡ true
+pub fit_agrees : (a : CoverFacts) (f : PieceParts) (s : ℕ) (xs : List ℕ) → CoversFit a (piece_cover f) → s ≡ f.offset → xs ≡ f.bytes → list_all (λ (e : ℕ × ℕ). same_where (maps.get a.bytes e.0) e.1) (placed s xs) ≡ true
 fit_agrees a f s xs fit start bytes =
     ap₂ (λ i ys. list_all (λ (e : ℕ × ℕ). same_where (maps.get a.bytes e.0) e.1) (placed i ys)) start bytes
     ∙ bytes_agree_is a.bytes (maps.get a.bytes) f (λ q. refl)
-    ∙ (and_parts _ _ (agree_of a (cover_of f) fit)).0
+    ∙ (and_parts _ _ (agree_of a (piece_cover f) fit)).0
 
-pub put_is : (a : CoverFacts) (f : Core) (s : ℕ) (xs : List ℕ) (m : maps.FinMap nat_cmp ℕ) (k : Marks) → CoversFit a (cover_of f) → s ≡ f.offset → xs ≡ f.bytes → m ≡ with_bytes a.bytes s xs → k ≡ marks_together a.marks (marks_of f) → ◌≡◌ {A = CoverFacts} (record { bytes = m; marks = k }) (covers_together a (cover_of f))
+pub put_is : (a : CoverFacts) (f : PieceParts) (s : ℕ) (xs : List ℕ) (m : maps.FinMap nat_cmp ℕ) (k : Marks) → CoversFit a (piece_cover f) → s ≡ f.offset → xs ≡ f.bytes → m ≡ with_bytes a.bytes s xs → k ≡ marks_together a.marks (piece_marks f) → ◌≡◌ {A = CoverFacts} (record { bytes = m; marks = k }) (covers_together a (piece_cover f))
 put_is a f s xs m k fit start bytes put marks =
     let made = put ∙ ap₂ (with_bytes a.bytes) start bytes in
     (λ i. record { bytes = made i; marks = marks i }) ∙ with_is a f fit
 
-pub whole_put : (a : CoverFacts) (f : Core) (s : ℕ) (xs : List ℕ) (n : ℕ) (k : Marks) → CoversFit a (cover_of f) → s ≡ f.offset → xs ≡ f.bytes → k.end ≡ Some n → k ≡ marks_together a.marks (marks_of f) → bytes_below (with_bytes a.bytes s xs) n ≡ bytes_to (covers_together a (cover_of f)).bytes (covers_together a (cover_of f)).marks.end
+pub whole_put : (a : CoverFacts) (f : PieceParts) (s : ℕ) (xs : List ℕ) (n : ℕ) (k : Marks) → CoversFit a (piece_cover f) → s ≡ f.offset → xs ≡ f.bytes → k.end ≡ Some n → k ≡ marks_together a.marks (piece_marks f) → bytes_below (with_bytes a.bytes s xs) n ≡ bytes_to (covers_together a (piece_cover f)).bytes (covers_together a (piece_cover f)).marks.end
 whole_put a f s xs n k fit start bytes is marks =
     ap (bytes_to (with_bytes a.bytes s xs)) (sym is)
     ∙ ap (λ (c : CoverFacts). bytes_to c.bytes c.marks.end) (put_is a f s xs (with_bytes a.bytes s xs) k fit start bytes refl marks)

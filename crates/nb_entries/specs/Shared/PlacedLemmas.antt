@@ -4,7 +4,8 @@ use Rattle.std.proofs.lemmas.Bool.{leb-true, le-leb, eqb-true, eq-eqb, leb-false
 use Rattle.std.proofs.lemmas.Option.{none-some, same_Some, slice_get_within}
 use Rattle.nb_datagram.specs.Fragment.{Core, reach, Covers, EndsAt, byte_of, end_of_one}
 use Rattle.nb_entries.specs.Marks.{Promises, promise_of_one}
-use Rattle.nb_entries.specs.Cover.{BytesBelow, placed, cover_of, AreCoverFacts}
+use Rattle.nb_entries.specs.Piece.{PieceParts, piece_of, piece_reach}
+use Rattle.nb_entries.specs.Cover.{BytesBelow, placed, piece_cover, cover_of, AreCoverFacts}
 use Rattle.std.specs.declared.cmp.Ordering.{Ordering}
 use Rattle.std.specs.Ordering.{nat_cmp, eq_by_cmp}
 use Rattle.std.specs.Cmp.{nat_cmp_total, unsigned_tied}
@@ -83,19 +84,25 @@ end_of_decides f n = (
 pub covers_below : (f : Core) (i x : ℕ) → Covers f i x → i < reach f
 covers_below f i x c = let inside = slice_get_within f.bytes (i - f.offset) x c.1 in let from = c.0 in omega (arith, inside, from)
 
+-- a place that a piece has a byte at is below its reach
+pub piece_below : (p : PieceParts) (q x : ℕ) → map.get (piece_cover p).bytes q ≡ Some x → q < piece_reach p
+piece_below p q x g =
+    let found = sym (map.get-from_entries nat_cmp_total (placed p.offset p.bytes) q ∙ find-placed p.offset p.bytes q) ∙ g in
+    let there = taken (nat_le p.offset q) (slice_get p.bytes (q - p.offset)) x found in
+    let from = leb-true p.offset q there.0 in
+    let inside = slice_get_within p.bytes (q - p.offset) x there.1 in
+    omega (arith, inside, from)
+
+-- what one piece says is well formed
+pub piece_formed : (p : PieceParts) → AreCoverFacts (piece_cover p)
+piece_formed p = λ n e. let ends = ended p.more (piece_reach p) n e in record {
+  marks = λ r h. let promises = promised p.more (piece_reach p) r h in let clash : true ≡ false = sym promises.0 ∙ ends.0 in absurd (cc clash);
+  bytes = λ q x g. let below = piece_below p q x g in omega (arith, below, ends.1);
+}
+
 -- what one fragment says is well formed
 pub cover_of_formed : (f : Core) → AreCoverFacts (cover_of f)
-cover_of_formed f = λ n e. record {
-  marks = λ r p.
-      let ends = (end_of_decides f n).0 e in
-      let promises = (promise_of_decides f r).0 p in
-      let clash : true ≡ false = sym promises.0 ∙ ends.0 in absurd (cc clash);
-  bytes = λ q x g.
-      let ends = (end_of_decides f n).0 e in
-      let covers = (byte_of_decides f q x).0 (sym (get-cover_of f q) ∙ g) in
-      let below = covers_below f q x covers in
-      omega (arith, below, ends.1);
-}
+cover_of_formed f = piece_formed (piece_of f)
 
 -- ---- several
 
@@ -110,4 +117,4 @@ find-append R (x ∷ xs) ys q = step (eq_by_cmp R q x.0) (find-append R xs ys q)
 
 -- the bytes of a fragment lie below each place that its reach is at most
 pub below_by_reach : (f : Core) (n : ℕ) → reach f ≤ n → BytesBelow n (cover_of f).bytes
-below_by_reach f n h i x g = let below = covers_below f i x ((byte_of_decides f i x).0 (sym (get-cover_of f i) ∙ g)) in omega (arith, below, h)
+below_by_reach f n h i x g = let below = piece_below (piece_of f) i x g in omega (arith, below, h)

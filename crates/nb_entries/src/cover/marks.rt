@@ -1,11 +1,10 @@
 //! Marks: what fragments say of a datagram's data besides its bytes, its end and the greatest
 //! promise: those of one, and of two together.
 ghost use Rattle.std.specs.Prelude.{◌≡◌, ◌↔◌, IsTrue};
-ghost use Rattle.nb_datagram.specs.Fragment.{core_of};
-ghost use Rattle.nb_entries.specs.Marks.{greater as the_greater, marks_agree, marks_lie_below, marks_of, marks_together, ends_by, marks_up_to};
-ghost use Rattle.nb_entries.specs.Cover.{bytes_lie_below, cover_of, is_below_end};
+ghost use Rattle.nb_entries.specs.Marks.{greater as the_greater, marks_agree, marks_lie_below, piece_marks, marks_together, ends_by, marks_up_to};
+ghost use Rattle.nb_entries.specs.Cover.{bytes_lie_below, is_below_end, piece_cover};
 
-use nb_datagram::LentFragment;
+use crate::piece::Piece;
 
 /// The end of a datagram's data, if it is known, and the greatest promise, if there is one.
 #[derive(Clone, Copy, Debug, PartialEq, Eq)]
@@ -15,12 +14,12 @@ pub struct Marks {
 }
 
 impl Marks {
-    /// What a fragment says.
-    pub(crate) fn of(fragment: &LentFragment<'_>) -> Marks
-        ensures { result ≡ marks_of (core_of fragment.now) }
+    /// What a piece says.
+    pub(crate) fn of(piece: &Piece<'_>) -> Marks
+        ensures { result ≡ piece_marks piece.now }
     {
-        let reach = Some(fragment.reach());
-        if fragment.has_more() {
+        let reach = Some(piece.reach());
+        if piece.has_more() {
             Marks {
                 end: None,
                 promise: reach,
@@ -78,19 +77,19 @@ impl Marks {
     }
 }
 
-/// Whether each byte of a fragment lies below the end.
-fn bytes_are_below(fragment: &LentFragment<'_>, end: u32) -> bool
-    ensures { result ≡ bytes_lie_below end (cover_of (core_of fragment.now)).bytes }
+/// Whether each byte of a piece lies below the end.
+fn bytes_are_below(piece: &Piece<'_>, end: u32) -> bool
+    ensures { result ≡ bytes_lie_below end (piece_cover piece.now).bytes }
 {
-    fragment.bytes().is_empty() || fragment.reach() <= end
+    piece.bytes().is_empty() || piece.reach() <= end
 }
 
-/// Whether each byte of a fragment and what it marks lie below the end, if there is one.
-pub(super) fn is_below(fragment: &LentFragment<'_>, end: Option<u32>) -> bool
-    ensures { result ≡ is_below_end end (cover_of (core_of fragment.now)) }
+/// Whether each byte of a piece and what it marks lie below the end, if there is one.
+pub(super) fn is_below(piece: &Piece<'_>, end: Option<u32>) -> bool
+    ensures { result ≡ is_below_end end (piece_cover piece.now) }
 {
     match end {
-        Some(end) => bytes_are_below(fragment, end) && Marks::of(fragment).lie_below(end),
+        Some(end) => bytes_are_below(piece, end) && Marks::of(piece).lie_below(end),
         None => true,
     }
 }

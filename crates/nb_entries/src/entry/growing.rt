@@ -11,6 +11,7 @@ ghost use Rattle.nb_entries.specs.Change.{Tells, handed_by, grown_to as grown};
 
 use super::EntryFacts;
 use crate::outline::{Change, Handing};
+use crate::piece::Piece;
 use nb_datagram::{LentFragment, UserData};
 use nb_streams::NoMemory;
 use std::alloc::Global;
@@ -51,7 +52,7 @@ impl EntryFacts {
         if self.is_whole() {
             return Ok(None);
         }
-        match self.known.cover.whole_with(alloc, fragment)? {
+        match self.known.cover.whole_with(alloc, &Piece::of(fragment))? {
             Some(bytes) => Ok(Some(UserData::new(bytes))),
             None => Ok(None),
         }
@@ -78,11 +79,12 @@ impl EntryFacts {
         ensures more { OnErr result
             (Holds self.old.cover (facts_of (core_of fragment.now)).cover → ⊥) }
     {
-        if self.known.cover.holds(fragment) {
+        let piece = Piece::of(fragment);
+        if self.known.cover.holds(&piece) {
             return Ok(Change::Same);
         }
         let bytes = self.newly_whole_with(alloc, fragment, handing)?;
-        self.known.cover.insert(alloc, fragment)?;
+        self.known.cover.insert(alloc, &piece)?;
         Ok(grown_to(bytes))
     }
 

@@ -12,6 +12,7 @@ use super::{Entry, EntryFacts};
 use crate::cover::CoverFacts;
 use crate::cover::marks::Marks;
 use crate::outline::{Change, Handing};
+use crate::piece::Piece;
 use crate::slot::{Facts, Slot};
 use nb_datagram::limits::{MAX_LENGTH, MORE};
 use nb_datagram::{Datagram, Key, LentFragment};
@@ -99,7 +100,7 @@ impl Slot<EntryFacts> {
             destination,
             bytes,
         ).ok()?;
-        let said = Marks::of(&fragment);
+        let said = Marks::of(&Piece::of(&fragment));
         if fragment.reach() as usize > MAX_LENGTH || !said.are(cover.marks()) {
             return None;
         }

@@ -1,4 +1,4 @@
-use Rattle.nb_entries.proofs.Common.{◌≡◌, true, false, ap, ap₂, sym, ◌∙◌, not_from_Decides, list_all, core_of, marks_together, placed, is_there}
+use Rattle.nb_entries.proofs.Common.{◌≡◌, true, false, ap, ap₂, sym, ◌∙◌, not_from_Decides, list_all, marks_together, placed, is_there}
 use Rattle.std.specs.FinMap as maps
 use Rattle.nb_entries.proofs.Covers.{held_from_all, all_from_held}
 use Rattle.nb_entries.proofs.cover.CoverFacts.holds.Goals as goal
@@ -12,8 +12,8 @@ returns-then-not-are c =
 pub returns : goal.returns
 returns c =
     let own = c.self.inside in
-    let f = core_of c.args.fragment.now in
-    let at = c.hold.ensures ∙ ap₂ (λ i xs. list_all (λ e. is_there (maps.get own.bytes e.0) e.1) (placed i xs)) (c.from-start.ensures ∙ c.offset.ensures) c.bytes.ensures.value in
+    let f = c.args.piece.now in
+    let at = c.hold.ensures ∙ ap₂ (λ i xs. list_all (λ e. is_there (maps.get own.bytes e.0) e.1) (placed i xs)) c.start-start.ensures c.bytes.ensures in
     let known = c.together-known.ensures ∙ ap (marks_together own.marks) c.of.ensures in
     rw (← c.self.view_is) (
       λ h. record { bytes = held_from_all (maps.get own.bytes) f (sym at ∙ h); marks = sym known ∙ c.are.ensures.0 c.if-not-are.false },

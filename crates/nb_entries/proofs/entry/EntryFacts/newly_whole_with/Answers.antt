@@ -9,14 +9,14 @@ pub new-requires : goal.new-requires
 new-requires c =
     let short = rw (← c.self.view_is) at c.requires.short in
     whole_size (covers_together (box_value c.self.inside.known).cover (cover_of (core_of c.args.fragment.now))) c.in-Some.bytes MAX_LENGTH short
-    (sym c.in-Some.is ∙ (rw c.deref.ensures at c.in_ok-bytes.ensures))
+    (sym c.in-Some.is ∙ (rw (c.deref.ensures, c.of.ensures) at c.in_ok-bytes.ensures))
 
 pub returns-in-Some : goal.returns-in-Some
 returns-in-Some c =
     let k = c.args.fragment.now.key in
     let e = c.args.self.now in
     let whole = λ (x : EntryFacts). bytes_to (covers_together x.cover (cover_of (core_of c.args.fragment.now))).bytes (covers_together x.cover (cover_of (core_of c.args.fragment.now))).marks.end in
-    let same = ap Some c.new.ensures ∙ sym c.in-Some.is ∙ (rw c.deref.ensures at c.in_ok-bytes.ensures) ∙ ap whole c.self.view_is in
+    let same = ap Some c.new.ensures ∙ sym c.in-Some.is ∙ (rw (c.deref.ensures, c.of.ensures) at c.in_ok-bytes.ensures) ∙ ap whole c.self.view_is in
     rw c.in-Over.is (newly_always k (Held e) _ (datagram_with k e (whole e)) (not_from_Decides c.is_whole.result c.is_whole.ensures c.if-is_whole.false) (ap (datagram_with k e) same))
 
 pub returns-in-None : goal.returns-in-None
@@ -24,5 +24,5 @@ returns-in-None c =
     let k = c.args.fragment.now.key in
     let e = c.args.self.now in
     let whole = λ (x : EntryFacts). bytes_to (covers_together x.cover (cover_of (core_of c.args.fragment.now))).bytes (covers_together x.cover (cover_of (core_of c.args.fragment.now))).marks.end in
-    let same = sym c.in-None.is ∙ (rw c.deref.ensures at c.in_ok-bytes.ensures) ∙ ap whole c.self.view_is in
+    let same = sym c.in-None.is ∙ (rw (c.deref.ensures, c.of.ensures) at c.in_ok-bytes.ensures) ∙ ap whole c.self.view_is in
     rw c.in-Over.is (newly_always k (Held e) _ (datagram_with k e (whole e)) (not_from_Decides c.is_whole.result c.is_whole.ensures c.if-is_whole.false) (ap (datagram_with k e) same))

@@ -1,13 +1,14 @@
 //! What the lines of the list leave to those that follow.
-ghost use Rattle.std.specs.Prelude.{◌≡◌};
-ghost use Rattle.nbt_look.specs.Listing.{nothing_listed, passed, seen};
+ghost use Rattle.std.specs.Prelude.{◌≡◌, OnOk};
+ghost use Rattle.nbt_look.specs.Listing.{listed, nothing_listed};
 ghost use Rattle.nbt_look.specs.Wanted.{is_enough};
 
 use crate::asked::Asked;
 use crate::counting::{Counts, Outcome};
-use crate::times::first_after;
-use crate::widths::Widths;
-use nb_streams::Bytes;
+use crate::ends::keep_first;
+use crate::widths::{Cells, Widths};
+use nb_streams::{Bytes, NoMemory};
+use std::alloc::Global;
 
 /// What the lines of the list leave to those that follow.
 #[derive(Drop)]
@@ -35,24 +36,32 @@ impl Listing {
             asked,
             first: None,
             interface: None,
-            widths: Widths::first(),
+            widths: Widths {
+                number: 5,
+                time: 9,
+                source: 15,
+                target: 15,
+            },
             counts: Counts::new(),
             shown: 0,
         }
     }
 
-    /// Takes the time of a frame.
-    pub fn see(&mut self, time: Option<u64>)
-        ensures { self.new ≡ seen self.old time }
+    /// Takes a line of this interface with these cells, of a frame that counts so.
+    pub fn list(
+        &mut self,
+        alloc: Global,
+        label: &str,
+        cells: &Cells,
+        outcome: Outcome,
+    ) -> Result<(), NoMemory>
+        ensures { OnOk result (self.new ≡ listed self.old label.now cells.now outcome) }
     {
-        self.first = first_after(self.first, time);
-    }
-
-    /// Takes a frame without a line.
-    pub fn pass(&mut self, outcome: Outcome)
-        ensures { self.new ≡ passed self.old outcome }
-    {
+        keep_first(alloc, &mut self.interface, label)?;
+        self.widths = self.widths.widened(cells);
         self.counts.count(outcome);
+        self.shown = self.shown.saturating_add(1);
+        Ok(())
     }
 
     /// Whether there are as many lines as are wanted.

@@ -1,11 +1,11 @@
 //! Whether a name is wanted.
 ghost use Rattle.std.specs.Prelude.{◌≡◌};
 ghost use Rattle.std.specs.List.{list_any};
-ghost use Rattle.nbt_look.specs.Naming.{is_of_names, is_wanted_name, means, same_letters, stands_before_mark};
+ghost use Rattle.nbt_look.specs.Naming.{is_of_names, is_wanted_name, means};
 
 use nb_streams::Bytes;
 
-/// Whether a name of a field with this tag is wanted.
+/// Whether a name of a field with this tag is wanted: one of these, where the tag is one of names.
 pub fn is_wanted_name(wanted: &[Bytes], tag: &str, name: &[u8]) -> bool
     ensures { result ≡ is_wanted_name wanted.now tag.now name.now }
 {
@@ -29,25 +29,13 @@ fn is_of_names(tag: &str) -> bool
     )
 }
 
-/// Whether a wanted name is this one, or what stands in it before a `<`.
+/// Whether a wanted name is this one, or what stands in it before a `<`, whatever the case of their
+/// letters.
 fn means(wanted: &[u8], name: &[u8]) -> bool
     ensures { result ≡ means wanted.now name.now }
 {
-    same_letters(wanted, name) || stands_before_mark(wanted, name)
-}
-
-/// Whether a wanted name is what stands in this one before a `<`.
-fn stands_before_mark(wanted: &[u8], name: &[u8]) -> bool
-    ensures { result ≡ stands_before_mark wanted.now name.now }
-{
-    wanted.len() < name.len()
-        && name[wanted.len()] == b'<'
-        && same_letters(wanted, &name[..wanted.len()])
-}
-
-/// Whether two texts are the same but for the case of their letters.
-fn same_letters(one: &[u8], other: &[u8]) -> bool
-    ensures { result ≡ same_letters one.now other.now }
-{
-    one.eq_ignore_ascii_case(other)
+    wanted.eq_ignore_ascii_case(name)
+        || (wanted.len() < name.len()
+            && name[wanted.len()] == b'<'
+            && wanted.eq_ignore_ascii_case(&name[..wanted.len()]))
 }

@@ -6,12 +6,11 @@ ghost use Rattle.nbt_look.specs.Times.{IsTime};
 ghost use Rattle.nbt_look.specs.Listing.{HasLine, Lists, ListsCarried, ListsDatagram, Shows, nothing_listed, text_in};
 
 use crate::asked::{Asked, Form};
-use crate::cells::set_cells;
 use crate::choosing::is_wanted;
 use crate::colours::colour_of_packet;
 use crate::counting::{LeftOut, Outcome, unread};
 use crate::ends::push_label;
-use crate::listing::Listing;
+use crate::listing::{Listing, set_cells};
 use crate::objects::{Shown, packet_object};
 use crate::standing::{outcome_in, push_said, standing_of};
 use crate::widths::{Cells, push_line};

@@ -1,13 +1,16 @@
 //! What the lines of the list leave to those that follow.
-ghost use Rattle.std.specs.Prelude.{◌≡◌, OnOk};
-ghost use Rattle.nbt_look.specs.Listing.{listed, nothing_listed};
-ghost use Rattle.nbt_look.specs.Wanted.{is_enough};
+ghost use Rattle.std.specs.Prelude.{◌≡◌, ℕ, List, OnOk};
+ghost use Rattle.nbt_look.specs.Listing.{cells_of, listed, nothing_listed};
+ghost use Rattle.nbt_look.specs.Times.{IsTime};
 
 use crate::asked::Asked;
 use crate::counting::{Counts, Outcome};
-use crate::ends::keep_first;
+use crate::ends::{keep_first, push_end, push_mark};
+use crate::times::push_time;
 use crate::widths::{Cells, Widths};
-use nb_streams::{Bytes, NoMemory};
+use nb_frames::UdpDatagram;
+use nb_pcap::Frame;
+use nb_streams::{Bytes, NoMemory, push_decimal};
 use std::alloc::Global;
 
 /// What the lines of the list leave to those that follow.
@@ -63,11 +66,39 @@ impl Listing {
         self.shown = self.shown.saturating_add(1);
         Ok(())
     }
+}
 
-    /// Whether there are as many lines as are wanted.
-    pub fn is_enough(&self) -> bool
-        ensures { result ≡ is_enough self.now.asked.wanted self.now.shown }
-    {
-        self.asked.wanted.is_enough(self.shown)
-    }
+/// Makes the cells those of a frame that has this datagram of the service of this port.
+pub fn set_cells(
+    listing: &Listing,
+    frame: &Frame<'_>,
+    label: &str,
+    datagram: &UdpDatagram<'_>,
+    port: u16,
+    cells: &mut Cells,
+) -> Result<(), NoMemory>
+    ensures { OnOk result ((at : List ℕ)
+        × IsTime listing.now.asked.times listing.now.first frame.now.time at
+        × (cells.new ≡ cells_of listing.now frame.now.number at label.now datagram.now port)) }
+{
+    let (hosts, ports) = (datagram.hosts, datagram.ports);
+    cells.number.clear();
+    push_decimal(frame.number, &mut cells.number)?;
+    cells.time.clear();
+    push_time(
+        listing.asked.times,
+        listing.first,
+        frame.time,
+        &mut cells.time,
+    )?;
+    cells.source.clear();
+    push_end(hosts.source, ports.source, port, &mut cells.source)?;
+    push_mark(&listing.interface, label, &mut cells.source)?;
+    cells.target.clear();
+    push_end(
+        hosts.destination,
+        ports.destination,
+        port,
+        &mut cells.target,
+    )
 }

@@ -15,6 +15,9 @@ use std::fs::{File, metadata};
 use std::io;
 use std::io::{BufWriter, ErrorKind, Read, Stdin, Write};
 
+/// What messages call standard input.
+const STANDARD_INPUT: [&str; 1] = ["standard input"];
+
 /// An input that is read.
 #[derive(Drop)]
 pub enum Input {
@@ -50,10 +53,15 @@ pub fn look_at_all(rt: &HostRuntime, titles: &[&str], asked: Asked) -> u8 {
         return fail(rt, "memory ran out");
     };
     let printed = RefCell::new(Output::new(stdout));
+    let shown_titles = if titles[..] == ["-"] {
+        STANDARD_INPUT.as_slice()
+    } else {
+        titles
+    };
     let code = match sources_of(rt, titles, signatures.as_slice(), &printed) {
         Ok(sources) => show(
             rt.alloc(),
-            shown_titles(titles),
+            shown_titles,
             asked,
             signatures.as_slice(),
             sources,
@@ -72,17 +80,6 @@ fn unread_signatures(alloc: Global, count: usize) -> Result<Vec<Cell<Signature>>
         signatures.push(Cell::new(UNREAD))?;
     }
     Ok(signatures)
-}
-
-/// What messages call standard input.
-const STANDARD_INPUT: [&str; 1] = ["standard input"];
-
-/// What messages call these files.
-fn shown_titles<'a>(titles: &'a [&'a str]) -> &'a [&'a str] {
-    if titles[..] == ["-"] {
-        return &STANDARD_INPUT;
-    }
-    titles
 }
 
 /// Opens these files, whose signatures these cells keep, and before whose reads the output in a cell

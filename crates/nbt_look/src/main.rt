@@ -3,7 +3,6 @@
 
 mod asked;
 mod asking;
-mod cells;
 mod choosing;
 mod colours;
 mod command_line;
@@ -19,7 +18,6 @@ mod lister;
 mod listing;
 mod looking;
 mod messages;
-mod naming;
 mod objects;
 mod output;
 mod printing;

@@ -47,7 +47,7 @@ fn print_list<R: Read, W: Write>(
 {
     let mut number: u64 = 0;
     'frames: loop {
-        if lister.listing.is_enough() || number == u64::MAX {
+        if lister.listing.asked.wanted.is_enough(lister.listing.shown) || number == u64::MAX {
             return Ok(());
         }
         fill_all(sources);

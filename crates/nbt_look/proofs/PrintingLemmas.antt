@@ -1,7 +1,7 @@
 -- What printing the list of files keeps from frame to frame, and how it ends.
-use Rattle.std.proofs.Common.{◌≡◌, ◌≢◌, ◌∙◌, ◌⊎◌, inl, inr, ◌+◌, ◌-◌, ◌^◌, ◌++◌, ◌∷◌, ℕ, zero, suc, Bool, true, false, List, [], length, set, slice_get, Option, Some, None, Result, Ok, Err, cond, drop, nat_eq, ap, refl, sym, subst, arith, append_assoc}
+use Rattle.std.proofs.Common.{◌≡◌, ◌≢◌, ◌∙◌, ◌⊎◌, inl, inr, ◌+◌, ◌-◌, ◌^◌, ◌++◌, ◌∷◌, ℕ, zero, suc, Bool, true, false, List, [], length, set, slice_get, Option, Some, None, Result, Ok, Err, cond, nat_eq, ap, refl, sym, subst, arith, append_assoc}
 use Rattle.std.specs.Io.KnownBytes.{Appends}
-use Rattle.std.proofs.lemmas.Bool.{eqb-true, cases_eq}
+use Rattle.std.proofs.lemmas.Bool.{eqb-true}
 use Rattle.std.proofs.lemmas.Bool.Decides.{nat_tests}
 use Rattle.std.proofs.lemmas.List.{append-nil, length-append, length-set}
 use Rattle.std.proofs.lemmas.Option.{slice_get_within}
@@ -9,7 +9,7 @@ use Rattle.nb_streams.specs.Counted.{Counts as Calls}
 use Rattle.nb_streams.specs.Devices.{GrowTo}
 use Rattle.nb_streams.specs.DeviceFacts.{Appends-kept, Appends-more, Appends-nil, fails_from, front_after, grows_on}
 use Rattle.nb_pcap.specs.Frame.{FrameValue}
-use Rattle.nb_pcap.specs.Reading.{FileValue, Numbered, last_of}
+use Rattle.nb_pcap.specs.Reading.{Numbered, last_of}
 use Rattle.nbt_look.specs.declared.asked.Asked.{Asked}
 use Rattle.nbt_look.specs.declared.listing.Listing.{Listing}
 use Rattle.nbt_look.specs.declared.printing.PrintFault.{PrintFault}
@@ -20,11 +20,10 @@ use Rattle.nbt_look.specs.Listing.{Lists, ListsAll, none, nothing_listed, one_mo
 use Rattle.nbt_look.specs.Merging.{IsNext, Merges, comes_first, first_of, with_more, without}
 use Rattle.nbt_look.specs.Merging as merging
 use Rattle.nbt_look.specs.Printing.{PrintsFrame, PrintsLast}
-use Rattle.nbt_look.specs.Printing.{AreListed, AreUnread, GivenAt, HasEnded, IsDone, MayGive, MayGiveOf, MergesOn, PrintsList, Prints, held}
-use Rattle.nbt_look.specs.Sources.{AreRead, Fills, FillsAll, FillsFrom, IsFirst, IsOn, IsRead, NoneFirst, ReadAs, SourceValue, given, held_in, held_of, last_given, time_in, time_of, unread}
+use Rattle.nbt_look.specs.Printing.{AreListed, AreUnread, GivenAt, HasEnded, IsDone, MergesOn, PrintsList, Prints, held}
+use Rattle.nbt_look.specs.Sources.{AreRead, FillsAll, IsFirst, IsOn, IsRead, NoneFirst, ReadAs, SourceValue, given, held_in, held_of, time_in, time_of, unread}
 use Rattle.nbt_look.specs.Totals.{last_text}
 use Rattle.nbt_look.specs.Wanted.{is_enough}
-use Rattle.nbt_look.proofs.MergingLemmas.{merges_more, same_files}
 use Rattle.nbt_look.proofs.SourcesLemmas.{IsKnown, fill_each, nothing_yet, same_calls, set_elsewhere, set_here, some_at}
 use Rattle.nbt_look.proofs.StepLemmas.{ShowsOf, added, held_frame, merges_filled, merges_given, shows_in}
 

@@ -1,9 +1,8 @@
 -- Files that are read side by side.
-use Rattle.std.proofs.Common.{◌≡◌, ◌≢◌, ◌∙◌, ◌⊎◌, inl, inr, ◌<◌, ◌≤◌, ◌+◌, ◌++◌, ◌∷◌, ℕ, zero, suc, Bool, true, false, cond, List, [], length, set, slice_get, Option, Some, None, Result, Ok, Err, ap, refl, sym, subst, arith}
-use Rattle.std.proofs.lemmas.Bool.{cases_eq, cases_lt}
-use Rattle.std.proofs.lemmas.Bool.Decides.{nat_tests}
+use Rattle.std.proofs.Common.{◌≡◌, ◌≢◌, ◌∙◌, ◌⊎◌, inl, inr, ◌<◌, ◌≤◌, ◌+◌, ◌++◌, ◌∷◌, ℕ, zero, suc, List, [], length, set, slice_get, Option, Some, None, Result, Ok, Err, ap, refl, sym, subst, arith}
+use Rattle.std.proofs.lemmas.Bool.{cases_eq}
 use Rattle.std.proofs.lemmas.List.{append-nil, length-append, length-set}
-use Rattle.std.proofs.lemmas.Option.{slice_get_past, slice_get_within}
+use Rattle.std.proofs.lemmas.Option.{slice_get_within}
 use Rattle.nb_streams.specs.Devices.{GrowTo}
 use Rattle.nb_streams.specs.DeviceFacts.{Consumes-more, Consumes-nil, grows_on}
 use Rattle.nb_pcap.specs.declared.context.Context.TheVariants.{Beginning}
@@ -14,8 +13,7 @@ use Rattle.nb_pcap.specs.Frame.{FrameValue}
 use Rattle.nb_pcap.specs.Reading.{GivesAgain, Numbered, ReadsFrom, ReadsOn}
 use Rattle.nbt_look.specs.declared.sources.Waiting.{Waiting}
 use Rattle.nbt_look.specs.declared.sources.Waiting.TheVariants.{Unread, Frame, Ended}
-use Rattle.nbt_look.specs.Sources.{AreRead, Fills, FillsAll, FillsFrom, IsFirst, IsOn, IsRead, NoneFirst, ReadAs, SourceValue, earlier_of, time_of, unread, waiting_after}
-use Rattle.nbt_look.specs.Merging.{comes_first}
+use Rattle.nbt_look.specs.Sources.{AreRead, Fills, FillsAll, FillsFrom, IsOn, IsRead, ReadAs, SourceValue, unread, waiting_after}
 use Rattle.nbt_look.proofs.FrontLemmas.{spells_came}
 use Rattle.nb_streams.specs.Counted.{Counts as Calls}
 use Rattle.nb_streams.specs.Devices.{ShowsReadFault}

@@ -1,31 +1,18 @@
 -- What reading on, and giving a frame, leave of a merge.
-use Rattle.std.proofs.Common.{◌≡◌, ◌≢◌, ◌∙◌, ◌⊎◌, inl, inr, ◌+◌, ◌-◌, ◌^◌, ◌++◌, ◌∷◌, ℕ, zero, suc, Bool, true, false, List, [], length, set, slice_get, Option, Some, None, Result, Ok, Err, cond, drop, nat_eq, ap, refl, sym, subst, arith, append_assoc}
-use Rattle.std.specs.Io.KnownBytes.{Appends}
+use Rattle.std.proofs.Common.{◌≡◌, ◌≢◌, ◌∙◌, ◌⊎◌, inl, inr, ◌++◌, ◌∷◌, ℕ, Bool, true, false, List, [], length, set, slice_get, Option, Some, None, cond, drop, nat_eq, ap, refl, sym, subst, arith, append_assoc}
 use Rattle.std.proofs.lemmas.Bool.{eqb-true, cases_eq}
 use Rattle.std.proofs.lemmas.Bool.Decides.{nat_tests}
-use Rattle.std.proofs.lemmas.List.{length-append, length-set}
 use Rattle.std.proofs.lemmas.Option.{slice_get_within}
 use Rattle.nb_streams.specs.Counted.{Counts as Calls}
-use Rattle.nb_streams.specs.Devices.{GrowTo}
-use Rattle.nb_streams.specs.DeviceFacts.{Appends-kept, Appends-more, Appends-nil, fails_from, front_after, grows_on}
 use Rattle.nb_pcap.specs.Frame.{FrameValue}
 use Rattle.nb_pcap.specs.Reading.{FileValue, Numbered, last_of}
-use Rattle.nbt_look.specs.declared.asked.Asked.{Asked}
-use Rattle.nbt_look.specs.declared.listing.Listing.{Listing}
-use Rattle.nbt_look.specs.declared.printing.PrintFault.{PrintFault}
-use Rattle.nbt_look.specs.declared.printing.PrintFault.TheVariants.{Write, NoMemory}
 use Rattle.nbt_look.specs.declared.sources.Waiting.{Waiting}
 use Rattle.nbt_look.specs.declared.sources.Waiting.TheVariants.{Unread, Frame, Ended}
-use Rattle.nbt_look.specs.Listing.{Lists, ListsAll, none, nothing_listed}
 use Rattle.nbt_look.specs.Merging.{IsNext, Merges, comes_first, first_of, with_more, without}
-use Rattle.nbt_look.specs.Merging as merging
-use Rattle.nbt_look.specs.Printing.{PrintsFrame, PrintsLast}
-use Rattle.nbt_look.specs.Printing.{AreListed, AreUnread, GivenAt, HasEnded, IsDone, MayGive, MayGiveOf, MergesOn, PrintsList, Prints, held}
-use Rattle.nbt_look.specs.Sources.{AreRead, Fills, FillsAll, FillsFrom, IsFirst, IsOn, IsRead, NoneFirst, ReadAs, SourceValue, given, held_in, held_of, last_given, time_in, time_of, unread}
-use Rattle.nbt_look.specs.Totals.{last_text}
-use Rattle.nbt_look.specs.Wanted.{is_enough}
+use Rattle.nbt_look.specs.Printing.{MayGive, MayGiveOf, MergesOn, held}
+use Rattle.nbt_look.specs.Sources.{Fills, FillsAll, FillsFrom, IsFirst, ReadAs, SourceValue, given, held_in, held_of, last_given, time_in, time_of}
 use Rattle.nbt_look.proofs.MergingLemmas.{merges_more, same_files}
-use Rattle.nbt_look.proofs.SourcesLemmas.{IsKnown, fill_each, nothing_yet, set_elsewhere, set_here, some_at}
+use Rattle.nbt_look.proofs.SourcesLemmas.{IsKnown, set_elsewhere, set_here, some_at}
 
 -- ---- what a step leaves of a merge
 

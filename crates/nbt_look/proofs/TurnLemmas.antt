@@ -1,22 +1,10 @@
 -- Which file's frame comes first.
-use Rattle.std.proofs.Common.{◌≡◌, ◌≢◌, ◌∙◌, ◌⊎◌, inl, inr, ◌<◌, ◌≤◌, ◌+◌, ◌++◌, ◌∷◌, ℕ, zero, suc, Bool, true, false, cond, List, [], length, set, slice_get, Option, Some, None, Result, Ok, Err, ap, refl, sym, subst, arith}
+use Rattle.std.proofs.Common.{◌≡◌, ◌∙◌, ◌⊎◌, inl, inr, ◌<◌, ◌≤◌, ◌+◌, ℕ, Bool, true, false, cond, List, length, slice_get, Option, Some, None, ap, refl, sym, subst, arith}
 use Rattle.std.proofs.lemmas.Bool.{cases_eq, cases_lt}
 use Rattle.std.proofs.lemmas.Bool.Decides.{nat_tests}
-use Rattle.std.proofs.lemmas.List.{append-nil, length-append, length-set}
-use Rattle.std.proofs.lemmas.Option.{slice_get_past, slice_get_within}
-use Rattle.nb_streams.specs.Devices.{GrowTo}
-use Rattle.nb_streams.specs.DeviceFacts.{Consumes-more, Consumes-nil, grows_on}
-use Rattle.nb_pcap.specs.declared.context.Context.TheVariants.{Beginning}
-use Rattle.nb_pcap.specs.declared.fault.FileFault.{FileFault}
-use Rattle.nb_pcap.specs.declared.file_reading.Standing.{Standing}
-use Rattle.nb_pcap.specs.File.{Spells, no_part}
-use Rattle.nb_pcap.specs.Frame.{FrameValue}
-use Rattle.nb_pcap.specs.Reading.{GivesAgain, Numbered, ReadsFrom, ReadsOn}
-use Rattle.nbt_look.specs.declared.sources.Waiting.{Waiting}
-use Rattle.nbt_look.specs.declared.sources.Waiting.TheVariants.{Unread, Frame, Ended}
-use Rattle.nbt_look.specs.Sources.{AreRead, Fills, FillsAll, FillsFrom, IsFirst, IsOn, IsRead, NoneFirst, ReadAs, SourceValue, earlier_of, time_of, unread, waiting_after}
+use Rattle.std.proofs.lemmas.Option.{slice_get_past}
+use Rattle.nbt_look.specs.Sources.{IsFirst, NoneFirst, SourceValue, earlier_of, time_of}
 use Rattle.nbt_look.specs.Merging.{comes_first}
-use Rattle.nbt_look.proofs.FrontLemmas.{spells_came}
 
 pub record IsBestAt (sources : List SourceValue) (k at : ℕ) (time : Option ℕ) : Type 0 where
   pub within : at < k

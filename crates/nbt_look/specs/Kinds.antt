@@ -1,5 +1,5 @@
 -- The kinds of packets (our choice), by the header (RFC 1002 sections 4.2.1.1 and 4.4.1) and what stands behind it.
-use Rattle.std.specs.Prelude.{ℕ, ◌&&◌, ◌||◌, Bool, true, false, not, List, [], ◌∷◌, codes, nat_eq, nat_le}
+use Rattle.std.specs.Prelude.{ℕ, ◌&&◌, ◌||◌, Bool, true, false, not, List, codes, nat_eq, nat_le}
 use Rattle.std.specs.List.{list_any}
 use Rattle.nb_service.specs.Header.{opcode_of, rcode_of}
 use Rattle.nbt_look.specs.declared.counting.Outcome.{Outcome}

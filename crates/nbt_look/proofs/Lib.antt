@@ -5,6 +5,6 @@ mod NamingLemmas
 mod ObjectLemmas
 mod MergingLemmas
 mod SourcesLemmas
-mod SeveralLemmas
+mod StepLemmas
+mod TurnLemmas
 mod RunningLemmas
-mod ColourLemmas

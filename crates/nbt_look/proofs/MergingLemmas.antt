@@ -1,6 +1,6 @@
 -- Merging files by the times of their frames.
-use Rattle.std.proofs.Common.{◌≡◌, ◌∙◌, ◌⊎◌, inl, inr, ◌<◌, ◌≤◌, ◌++◌, ◌∷◌, ℕ, Bool, true, false, List, [], length, Option, Some, None, cond, drop, nat_eq, ap, refl, subst, suc, arith}
-use Rattle.std.proofs.lemmas.Bool.{cases_lt, eqb-true}
+use Rattle.std.proofs.Common.{◌≡◌, ◌≢◌, ◌∙◌, ◌⊎◌, inl, inr, ◌<◌, ◌≤◌, ◌++◌, ◌∷◌, ℕ, Bool, true, false, List, [], length, Option, Some, None, cond, drop, nat_eq, ap, refl, subst, suc, sym, arith}
+use Rattle.std.proofs.lemmas.Bool.{cases_eq, cases_lt, eqb-true}
 use Rattle.std.proofs.lemmas.Bool.Decides.{nat_tests}
 use Rattle.nb_pcap.specs.Frame.{FrameValue}
 use Rattle.nbt_look.specs.Merging.{BeginsFrom, IsAscending, IsNext, Merges, comes_first, first_of, none, not_after, of_place, one_more, without}
@@ -40,6 +40,27 @@ of_each _ _ _ (one_more files left at f fs next rest) =
       ap suc others.1,
       λ i. put_back (nat_eq i at) (files i) (of_place others.0 fs i) (left i) f (λ same. first_at files i at f next.begins same) (others.2 i),
     )
+
+-- ---- one file
+
+emptied : (b : Bool) (xs : List FrameValue) → xs ≡ [] → cond b (drop 1 xs) xs ≡ []
+emptied true xs is = ap (drop 1) is
+emptied false xs is = is
+
+first_taken : (files : ℕ → List FrameValue) (at : ℕ) (f : FrameValue) (others : List FrameValue) → ((i : ℕ) → i ≢ 0 → files i ≡ [])
+    → first_of (files at) ≡ Some f → without at files 0 ≡ others → (at ≡ 0) ⊎ (at ≡ 0 → ⊥) → files 0 ≡ f ∷ others
+first_taken files at f others only begins more (inl same) =
+    begins_with (files 0) f (ap (λ i. first_of (files i)) (sym same) ∙ begins) ∙ ap (λ t. f ∷ t) (ap (λ i. without i files 0) (sym same) ∙ more)
+first_taken files at f others only begins more (inr other) =
+    let nothing : first_of (files at) ≡ None = ap first_of (only at other) in absurd (cc (begins, nothing))
+
+-- of one file a merge has all its frames
+pub of_one : (files left : ℕ → List FrameValue) (fs : List FrameValue) → ((i : ℕ) → i ≢ 0 → files i ≡ []) → Merges files fs left
+    → files 0 ≡ fs ++ left 0
+of_one _ _ _ only (none files) = refl
+of_one _ _ _ only (one_more files left at f fs next rest) =
+    first_taken files at f (fs ++ left 0) only next.begins
+    (of_one (without at files) left fs (λ i other. emptied (nat_eq i at) (files i) (only i other)) rest) (cases_eq at 0)
 
 -- ---- times
 

@@ -1,71 +1,31 @@
--- What printing the list of a file keeps from frame to frame, and how it ends.
-use Rattle.std.proofs.Common.{◌≡◌, ◌⊎◌, ◌<◌, ◌+◌, ◌-◌, ◌^◌, ◌++◌, ◌∷◌, inl, inr, ℕ, List, [], length, Option, Some, None, Result, Ok, Err, false, true, refl, sym, subst, ◌∙◌, ap, append_assoc, arith}
-use Rattle.std.specs.Io.KnownBytes.{Appends, Consumes}
-use Rattle.std.proofs.lemmas.List.{append-nil, length-append}
+-- What printing the list of files keeps from frame to frame, and how it ends.
+use Rattle.std.proofs.Common.{◌≡◌, ◌≢◌, ◌∙◌, ◌⊎◌, inl, inr, ◌+◌, ◌-◌, ◌^◌, ◌++◌, ◌∷◌, ℕ, zero, suc, Bool, true, false, List, [], length, set, slice_get, Option, Some, None, Result, Ok, Err, cond, nat_eq, ap, refl, sym, subst, arith, append_assoc}
+use Rattle.std.specs.Io.KnownBytes.{Appends}
+use Rattle.std.proofs.lemmas.Bool.{eqb-true}
+use Rattle.std.proofs.lemmas.Bool.Decides.{nat_tests}
+use Rattle.std.proofs.lemmas.List.{append-nil, length-append, length-set}
+use Rattle.std.proofs.lemmas.Option.{slice_get_within}
 use Rattle.nb_streams.specs.Counted.{Counts as Calls}
-use Rattle.nb_streams.specs.Devices.{GrowTo, ShowsReadFault}
-use Rattle.nb_streams.specs.DeviceFacts.{Appends-kept, Appends-more, Appends-nil, Consumes-more, Consumes-nil, cut_from, fails_from, front_after, grows_on}
-use Rattle.nb_streams.specs.Room.{RoomValue}
-use Rattle.nb_pcap.specs.declared.context.Context.{Context}
-use Rattle.nb_pcap.specs.declared.context.Context.TheVariants.{Beginning}
-use Rattle.nb_pcap.specs.declared.fault.FileFault.{FileFault}
-use Rattle.nb_pcap.specs.declared.frame.Frame.{Frame}
-use Rattle.nb_pcap.specs.declared.file_reading.Standing.{Standing}
-use Rattle.nb_pcap.specs.declared.file_reading.Standing.TheVariants.{Reading}
-use Rattle.nb_pcap.specs.File.{Spells, no_part}
+use Rattle.nb_streams.specs.Devices.{GrowTo}
+use Rattle.nb_streams.specs.DeviceFacts.{Appends-kept, Appends-more, Appends-nil, fails_from, front_after, grows_on}
 use Rattle.nb_pcap.specs.Frame.{FrameValue}
-use Rattle.nb_pcap.specs.Reading.{FileValue, Numbered, ReadsFrame, ReadsFrom, ReadsOn, lent_frame, nothing_read}
-use Rattle.nb_pcap.specs.Steps.{Stops, bad, cut, unread, no_memory}
-use Rattle.nbt_look.specs.declared.printing.Ending.{Ending}
-use Rattle.nbt_look.specs.declared.printing.Ending.TheVariants.{Whole, Enough, Stopped}
+use Rattle.nb_pcap.specs.Reading.{Numbered, last_of}
+use Rattle.nbt_look.specs.declared.asked.Asked.{Asked}
+use Rattle.nbt_look.specs.declared.listing.Listing.{Listing}
 use Rattle.nbt_look.specs.declared.printing.PrintFault.{PrintFault}
 use Rattle.nbt_look.specs.declared.printing.PrintFault.TheVariants.{Write, NoMemory}
-use Rattle.nbt_look.specs.declared.listing.Listing.{Listing}
-use Rattle.nbt_look.specs.declared.asked.Asked.{Asked}
-use Rattle.nbt_look.specs.Listing.{Lists, ListsAll, none, one_more, nothing_listed}
-use Rattle.nbt_look.specs.Printing.{Ends, IsFront, Prints, PrintsFrame, PrintsLast, PrintsList}
+use Rattle.nbt_look.specs.declared.sources.Waiting.{Waiting}
+use Rattle.nbt_look.specs.declared.sources.Waiting.TheVariants.{Unread, Frame, Ended}
+use Rattle.nbt_look.specs.Listing.{Lists, ListsAll, none, nothing_listed, one_more}
+use Rattle.nbt_look.specs.Merging.{IsNext, Merges, comes_first, first_of, with_more, without}
+use Rattle.nbt_look.specs.Merging as merging
+use Rattle.nbt_look.specs.Printing.{PrintsFrame, PrintsLast}
+use Rattle.nbt_look.specs.Printing.{AreListed, AreUnread, GivenAt, HasEnded, IsDone, MergesOn, PrintsList, Prints, held}
+use Rattle.nbt_look.specs.Sources.{AreRead, FillsAll, IsFirst, IsOn, IsRead, NoneFirst, ReadAs, SourceValue, given, held_in, held_of, time_in, time_of, unread}
 use Rattle.nbt_look.specs.Totals.{last_text}
 use Rattle.nbt_look.specs.Wanted.{is_enough}
-use Rattle.nbt_look.proofs.FrontLemmas.{spells_came, spells_on}
-
--- the frames so far
-pub record IsPrinting (w : Asked) (before now : Option (List ℕ)) (calls later : Calls) (file : FileValue) (listing : Listing) (out so_far : Option (List ℕ)) (writes written : Calls) : Type 0 where
-  pub got : List ℕ
-  pub frames : List FrameValue
-  pub text : List ℕ
-  pub consumes : Consumes before now got
-  pub spells : Spells Beginning got frames file.context file.room.rest
-  pub counted : file.frames ≡ length frames
-  pub on : file.standing ≡ Reading
-  pub place_is : file.place + length file.room.rest ≡ length got
-  pub kept : file.room.taken ≡ length got
-  pub most : file.room.most ≡ 2 ^ 64 - 1
-  pub lists : ListsAll 1 frames (nothing_listed w) listing text
-  pub printed : Appends out so_far text
-  pub grow : GrowTo calls later
-  pub wrote : GrowTo writes written
-
-pub same_calls : (calls : Calls) → GrowTo calls calls
-same_calls calls = record { empty = omega arith; interrupted = omega arith; failed = omega arith }
-
-pub begins : (asked : Asked) (known out : Option (List ℕ)) (calls writes : Calls) (file : FileValue) (listing : Listing) → file ≡ nothing_read → listing ≡ nothing_listed asked
-    → IsPrinting asked known known calls calls file listing out out writes writes
-begins asked known out calls writes file listing is listing_is = rw is (rw listing_is (record {
-  got = [];
-  frames = [];
-  text = [];
-  consumes = Consumes-nil known;
-  spells = no_part Beginning [];
-  counted = refl;
-  on = refl;
-  place_is = refl;
-  kept = refl;
-  most = refl;
-  lists = none 1 (nothing_listed asked);
-  printed = Appends-nil out;
-  grow = same_calls calls;
-  wrote = same_calls writes;
-}))
+use Rattle.nbt_look.proofs.SourcesLemmas.{IsKnown, fill_each, nothing_yet, same_calls, set_elsewhere, set_here, some_at}
+use Rattle.nbt_look.proofs.StepLemmas.{ShowsOf, added, held_frame, merges_filled, merges_given, shows_in}
 
 -- one frame more
 pub lists_more : (n k : ℕ) (fs : List FrameValue) (f : FrameValue) (old mid new : Listing) (text line : List ℕ) → ListsAll n fs old mid text
@@ -79,234 +39,265 @@ lists_more _ k _ f _ mid new _ line (one_more n x fs old between _ first others 
     subst (λ (b : List ℕ). ListsAll n (x ∷ (fs ++ f ∷ [])) old new b) (sym (append_assoc first others line))
     (one_more n x (fs ++ f ∷ []) old between new first (others ++ line) fewer here (lists_more (n + 1) k fs f between mid new others line later next few t))
 
--- what was answered, where the file is read on
-pub reads_on : (old new : FileValue) (before left : Option (List ℕ)) (calls later : Calls) (r x : Result (Option Numbered) FileFault) → old.standing ≡ Reading → r ≡ x
-    → ReadsFrame old before left calls later r new → ReadsOn old before left calls later x new
-reads_on old new before left calls later r x is same p =
-    subst (λ (y : Result (Option Numbered) FileFault). ReadsOn old before left calls later y new) same
-    (subst (λ (s : Standing). ReadsFrom s old before left calls later r new) is p.0)
+-- ---- what was read, once a frame was given
 
--- a frame that was lent
-pub lent_is : (r : Result (Option Frame) FileFault) (o x : Option Frame) → r ≡ Ok o → o ≡ x → lent_frame r ≡ lent_frame (Ok x)
-lent_is r o x is also = ap lent_frame (is ∙ ap Ok also)
+read_given : (w : Waiting) (old s : SourceValue) (frames : List FrameValue) (time : Option ℕ) (found : Numbered) → s.waiting ≡ w → time_in w ≡ Some time
+    → last_of s.file ≡ Some found → IsRead old s frames → IsRead old (given s) (frames ++ found.frame ∷ [])
+read_given Unread old s frames time found is waits last r = absurd (cc waits)
+read_given (Frame t) old s frames time found is waits last r =
+    let reads = subst (λ (w : Waiting). ReadAs w old.calls s r.got frames) is r.reads in
+    let same : reads.0 ≡ found = cc (reads.1, last) in record {
+      got = r.got;
+      consumes = r.consumes;
+      grow = r.grow;
+      reads = subst (λ (n : Numbered). IsOn s.file r.got (frames ++ n.frame ∷ [])) same reads.3;
+    }
+read_given (Ended ending) old s frames time found is waits last r = absurd (cc waits)
 
-pub place_on : (p q : ℕ) (rest came got : List ℕ) → p + length rest ≡ length got → q ≡ p + length (rest ++ came) → q ≡ length (got ++ came)
-place_on p q rest came got x y = omega (arith, x, y, length-append rest came, length-append got came)
+are_given : (olds news : List SourceValue) (frames : ℕ → List FrameValue) (at : ℕ) (s : SourceValue) (time : Option ℕ) (found : Numbered)
+    → slice_get news at ≡ Some s → time_in s.waiting ≡ Some time → last_of s.file ≡ Some found → AreRead olds news frames
+    → AreRead olds (set news at (given s)) (added at found.frame frames)
+are_given olds news frames at s time found here waits last reads i old new is_old is_new = by_place (nat_eq i at) refl
+  where
+    by_place : (b : Bool) → nat_eq i at ≡ b → IsRead old new (cond b (frames i ++ found.frame ∷ []) (frames i))
+    by_place true is =
+        let same : i ≡ at = eqb-true i at is in
+        let was : slice_get news i ≡ Some s = ap (slice_get news) same ∙ here in
+        let now : slice_get (set news at (given s)) i ≡ Some (given s) =
+        ap (slice_get (set news at (given s))) same ∙ set_here news at (given s) (slice_get_within news at s here) in
+        let is_given : given s ≡ new = cc (now, is_new) in
+        subst (λ (x : SourceValue). IsRead old x (frames i ++ found.frame ∷ [])) is_given
+        (read_given s.waiting old s (frames i) time found refl waits last (reads i old s is_old was))
+    by_place false is =
+        let other : i ≢ at = λ e. grind (arith, nat_tests, is, e) in reads i old new is_old (sym (set_elsewhere news at i (given s) other) ∙ is_new)
 
--- ---- a frame came
+-- ---- the frames so far
 
--- its line is printed
-pub prints_next : (asked : Asked) (before now left out mid after : Option (List ℕ)) (calls midway later writes written last : Calls) (file new : FileValue) (old s : Listing) (found : Numbered)
-    → IsPrinting asked before now calls midway file old out mid writes written → ReadsOn file now left midway later (Ok (Some found)) new
-    → is_enough old.asked.wanted old.shown ≡ false → PrintsFrame found.number found.frame old s mid after written last (Ok tt)
-    → IsPrinting asked before left calls later new s out after writes last
-prints_next asked before now left out mid after calls midway later writes written last file new old s found w r few p =
-    let f = r.finds in
-    let one : found.number ≡ 1 + length w.frames = omega (arith, f.1, w.counted) in
-    record {
-      got = w.got ++ r.got;
-      frames = w.frames ++ found.frame ∷ [];
-      text = w.text ++ p.0;
-      consumes = Consumes-more before now left w.got r.got w.consumes r.consumes;
-      spells = spells_came Beginning file.context new.context w.got r.got file.room.rest new.room.rest w.frames (found.frame ∷ []) w.spells f.0;
-      counted = omega (arith, f.2, w.counted, length-append w.frames (found.frame ∷ []));
-      on = f.3;
-      place_is = place_on file.place (new.place + length new.room.rest) file.room.rest r.got w.got w.place_is f.5;
-      kept = omega (arith, w.kept, r.taken, length-append w.got r.got);
-      most = r.most ∙ w.most;
-      lists = lists_more 1 found.number w.frames found.frame (nothing_listed asked) old s w.text p.0 w.lists one few p.1;
-      printed = Appends-more out mid after w.text p.0 w.printed p.2;
-      grow = grows_on calls midway later w.grow r.grow;
-      wrote = grows_on writes written last w.wrote p.3;
+pub record IsMerging (w : Asked) (olds news : List SourceValue) (number : ℕ) (listing : Listing) (out so_far : Option (List ℕ)) (writes written : Calls) : Type 0 where
+  pub frames : ℕ → List FrameValue
+  pub merged : List FrameValue
+  pub text : List ℕ
+  pub long : length news ≡ length olds
+  pub reads : AreRead olds news frames
+  pub merges : MergesOn news frames merged
+  pub counted : number ≡ length merged
+  pub lists : ListsAll 1 merged (nothing_listed w) listing text
+  pub printed : Appends out so_far text
+  pub wrote : GrowTo writes written
+
+-- files of which nothing was read: none, and one more
+pub unread_none : (xs : List SourceValue) → xs ≡ [] → AreUnread xs
+unread_none xs is i t at = absurd (cc (sym (ap (λ (ys : List SourceValue). slice_get ys i) is) ∙ at))
+
+unread_at : (xs : List SourceValue) (known : Option (List ℕ)) (i : ℕ) (t : SourceValue) → AreUnread xs → slice_get (xs ++ unread known ∷ []) i ≡ Some t
+    → t ≡ unread t.known
+unread_at [] known zero t all is =
+    let same : unread known ≡ t = cc is in subst (λ (s : SourceValue). s ≡ unread s.known) same refl
+unread_at [] known (suc i) t all is = absurd (cc is)
+unread_at (x ∷ xs) known zero t all is = all 0 t is
+unread_at (x ∷ xs) known (suc i) t all is = unread_at xs known i t (λ j s at. all (suc j) s at) is
+
+pub unread_more : (xs ys : List SourceValue) (s : SourceValue) (known : Option (List ℕ)) → AreUnread xs → ys ≡ xs ++ s ∷ [] → s ≡ unread known
+    → AreUnread ys
+unread_more xs ys s known all is fresh i t at =
+    let grown : ys ≡ xs ++ unread known ∷ [] = is ∙ ap (λ (x : SourceValue). xs ++ x ∷ []) fresh in
+    unread_at xs known i t all (sym (ap (λ (zs : List SourceValue). slice_get zs i) grown) ∙ at)
+
+-- nothing is held of a file of which nothing was read
+unread_held : (o : Option SourceValue) → ((s : SourceValue) → o ≡ Some s → s ≡ unread s.known) → held_of o ≡ []
+unread_held None is = refl
+unread_held (Some s) is = ap (λ (x : SourceValue). held_in x.waiting x.file) (is s refl)
+
+pub begins : (w : Asked) (olds : List SourceValue) (listing : Listing) (out : Option (List ℕ)) (writes : Calls) → listing ≡ nothing_listed w
+    → AreUnread olds → IsMerging w olds olds 0 listing out out writes writes
+begins w olds listing out writes is fresh = rw is (record {
+  frames = λ i. [];
+  merged = [];
+  text = [];
+  long = refl;
+  reads = λ i old new is_old is_new. nothing_yet old new (fresh i old is_old) (let same : Some new ≡ Some old = sym is_new ∙ is_old in cc same);
+  merges = λ more may. merging.none (with_more (held olds) more);
+  counted = refl;
+  lists = none 1 (nothing_listed w);
+  printed = Appends-nil out;
+  wrote = same_calls writes;
+})
+
+-- what is known once the next frame of each file is read
+pub record IsFilled (w : Asked) (olds news : List SourceValue) (number : ℕ) (listing : Listing) (out so_far : Option (List ℕ)) (writes written : Calls) : Type 0 where
+  pub merging : IsMerging w olds news number listing out so_far writes written
+  pub known : (i : ℕ) (s : SourceValue) → slice_get news i ≡ Some s → IsKnown s.waiting
+  pub shows : (i : ℕ) → ShowsOf (slice_get news i)
+
+shows_at : (olds news : List SourceValue) (frames : ℕ → List FrameValue) (i : ℕ) (o : Option SourceValue) → length news ≡ length olds
+    → ((i : ℕ) (old new : SourceValue) → slice_get olds i ≡ Some old → slice_get news i ≡ Some new → IsRead old new (frames i) × IsKnown new.waiting)
+    → slice_get news i ≡ o → ShowsOf o
+shows_at olds news frames i None long each is = tt
+shows_at olds news frames i (Some s) long each is =
+    let old = some_at olds i (omega (arith, long, slice_get_within news i s is)) in
+    let known = each i old.0 s old.1 is in shows_in s.waiting old.0.calls s known.0.got (frames i) known.0.reads known.1
+
+pub filled : (w : Asked) (olds mids news : List SourceValue) (number : ℕ) (listing : Listing) (out so_far : Option (List ℕ)) (writes written : Calls)
+    → IsMerging w olds mids number listing out so_far writes written → length news ≡ length mids → FillsAll mids news
+    → IsFilled w olds news number listing out so_far writes written
+filled w olds mids news number listing out so_far writes written m long fills =
+    let each = fill_each olds mids news m.frames (sym long) m.reads fills in
+    let lengths : length news ≡ length olds = long ∙ m.long in record {
+      merging = record {
+        frames = m.frames;
+        merged = m.merged;
+        text = m.text;
+        long = lengths;
+        reads = λ i old new is_old is_new. (each i old new is_old is_new).0;
+        merges = merges_filled mids news m.frames m.merged (sym long) fills m.merges;
+        counted = m.counted;
+        lists = m.lists;
+        printed = m.printed;
+        wrote = m.wrote;
+      };
+      known = λ i s is.
+          (let old = some_at olds i (omega (arith, lengths, slice_get_within news i s is)) in (each i old.0 s old.1 is).1);
+      shows = λ i. shows_at olds news m.frames i (slice_get news i) lengths each refl;
     }
 
--- each frame is one more of those that 64 bits count
-pub one_further : (asked : Asked) (before now left out mid : Option (List ℕ)) (calls midway later writes written : Calls) (file new : FileValue) (old : Listing) (found : Numbered)
-    → IsPrinting asked before now calls midway file old out mid writes written → ReadsOn file now left midway later (Ok (Some found)) new
-    → 2 ^ 64 - new.frames < 2 ^ 64 - file.frames
-one_further asked before now left out mid calls midway later writes written file new old found w r = omega (arith, r.finds.1, r.finds.2, r.finds.6)
+-- ---- no frame comes
 
--- its line isn't printed whole
-pub not_printed : (asked : Asked) (before now left out mid after : Option (List ℕ)) (calls midway later writes written last : Calls) (file new : FileValue) (old s made : Listing) (found : Numbered) (why : PrintFault)
-    → IsPrinting asked before now calls midway file old out mid writes written → ReadsOn file now left midway later (Ok (Some found)) new
-    → is_enough old.asked.wanted old.shown ≡ false → PrintsFrame found.number found.frame old s mid after written last (Err why)
-    → (bytes : List ℕ) × Consumes before left bytes × PrintsList asked bytes left calls later out after writes last made (Err why)
-not_printed asked before now left out mid after calls midway later writes written last file new old s made found Write w r few p =
-    let f = r.finds in
-    let one : found.number ≡ 1 + length w.frames = omega (arith, f.1, w.counted) in (
-      w.got ++ r.got,
-      Consumes-more before now left w.got r.got w.consumes r.consumes,
-      (
-        s,
-        w.text ++ p.0,
-        record {
-          frames = w.frames ++ found.frame ∷ [];
-          last = new.context;
-          rest = new.room.rest;
-          listed = record {
-            spells = spells_came Beginning file.context new.context w.got r.got file.room.rest new.room.rest w.frames (found.frame ∷ []) w.spells f.0;
-            lists = lists_more 1 found.number w.frames found.frame (nothing_listed asked) old s w.text p.0 w.lists one few p.1;
-          };
-        },
-        front_after out mid after w.text p.0 w.printed p.2,
-        fails_from writes written last w.wrote p.3,
-      ),
+are_listed : (w : Asked) (olds news : List SourceValue) (number : ℕ) (listing : Listing) (out so_far : Option (List ℕ)) (writes written : Calls)
+    → (m : IsMerging w olds news number listing out so_far writes written) → AreListed w olds news listing m.text m.merged
+are_listed w olds news number listing out so_far writes written m =
+    record { frames = m.frames; reads = m.reads; merges = m.merges; lists = m.lists }
+
+-- the list is done
+pub prints_done : (w : Asked) (olds news : List SourceValue) (number : ℕ) (listing : Listing) (out so_far : Option (List ℕ)) (writes written : Calls)
+    → (m : IsMerging w olds news number listing out so_far writes written) → IsDone news listing m.merged
+    → PrintsList w olds news out so_far writes written listing (Ok tt)
+prints_done w olds news number listing out so_far writes written m done =
+    (m.text, m.merged, are_listed w olds news number listing out so_far writes written m, done, m.printed, m.wrote)
+
+-- there are enough lines, or as many frames as 64 bits count
+pub prints_enough : (w : Asked) (olds news : List SourceValue) (number : ℕ) (listing : Listing) (out so_far : Option (List ℕ)) (writes written : Calls)
+    → IsMerging w olds news number listing out so_far writes written → (is_enough listing.asked.wanted listing.shown ≡ true) ⊎ (number ≡ 2 ^ 64 - 1)
+    → PrintsList w olds news out so_far writes written listing (Ok tt)
+prints_enough w olds news number listing out so_far writes written m (inl enough) =
+    prints_done w olds news number listing out so_far writes written m (inr (inl enough))
+prints_enough w olds news number listing out so_far writes written m (inr full) =
+    prints_done w olds news number listing out so_far writes written m (inr (inr (sym m.counted ∙ full)))
+
+ended : (w : Waiting) → IsKnown w → time_in w ≡ None → HasEnded w
+ended Unread known nothing = known
+ended (Frame time) known nothing = absurd (cc nothing)
+ended (Ended ending) known nothing = tt
+
+-- all files are at their ends
+pub prints_ended : (w : Asked) (olds news : List SourceValue) (number : ℕ) (listing : Listing) (out so_far : Option (List ℕ)) (writes written : Calls)
+    → IsFilled w olds news number listing out so_far writes written → NoneFirst news
+    → PrintsList w olds news out so_far writes written listing (Ok tt)
+prints_ended w olds news number listing out so_far writes written f nothing =
+    prints_done w olds news number listing out so_far writes written f.merging
+    (inl (λ i s is. ended s.waiting (f.known i s is) (sym (ap time_of is) ∙ nothing i)))
+
+-- ---- a frame comes
+
+-- the frame of the file whose turn it is
+pub record IsTurn (news : List SourceValue) (at : ℕ) (s : SourceValue) (first : IsFirst news at) : Type 0 where
+  pub here : slice_get news at ≡ Some s
+  pub waits : time_in s.waiting ≡ Some first.time
+  pub found : Numbered
+  pub last : last_of s.file ≡ Some found
+  pub time : found.frame.time ≡ first.time
+  pub held : held_of (Some s) ≡ found.frame ∷ []
+
+pub turn_of : (news : List SourceValue) (at : ℕ) (s : SourceValue) → ((i : ℕ) → ShowsOf (slice_get news i)) → (first : IsFirst news at)
+    → slice_get news at ≡ Some s → IsTurn news at s first
+turn_of news at s shows first here =
+    let waits : time_in s.waiting ≡ Some first.time = sym (ap time_of here) ∙ first.stands in
+    let has = held_frame s.waiting s.file first.time (subst ShowsOf here (shows at)) waits in
+    record { here = here; waits = waits; found = has.0; last = has.1; time = has.2; held = has.3 }
+
+-- its line is made, and is printed or not
+next_listed : (w : Asked) (olds news : List SourceValue) (number : ℕ) (old new : Listing) (line : List ℕ) (out so_far : Option (List ℕ)) (writes written : Calls) (at : ℕ) (s : SourceValue)
+    → (f : IsFilled w olds news number old out so_far writes written) → (first : IsFirst news at) → (t : IsTurn news at s first)
+    → is_enough old.asked.wanted old.shown ≡ false → Lists (number + 1) t.found.frame old new line
+    → AreListed w olds (set news at (given s)) new (f.merging.text ++ line) (f.merging.merged ++ t.found.frame ∷ [])
+next_listed w olds news number old new line out so_far writes written at s f first t few lists =
+    let m = f.merging in record {
+      frames = added at t.found.frame m.frames;
+      reads = are_given olds news m.frames at s first.time t.found t.here t.waits t.last m.reads;
+      merges = merges_given news m.frames m.merged at s t.found f.shows t.here first t.waits t.time t.held m.merges;
+      lists = lists_more 1 (number + 1) m.merged t.found.frame (nothing_listed w) old new m.text line m.lists (omega (arith, m.counted)) few lists;
+    }
+
+pub next_printed : (w : Asked) (olds news : List SourceValue) (number : ℕ) (old new : Listing) (out so_far after : Option (List ℕ)) (writes written last : Calls) (at : ℕ) (s t : SourceValue)
+    → IsFilled w olds news number old out so_far writes written → IsFirst news at → slice_get news at ≡ Some s
+    → is_enough old.asked.wanted old.shown ≡ false → GivenAt (Ok tt) s t
+    → ((found : Numbered) → last_of s.file ≡ Some found → PrintsFrame (number + 1) found.frame old new so_far after written last (Ok tt))
+    → IsMerging w olds (set news at t) (number + 1) new out after writes last
+next_printed w olds news number old new out so_far after writes written last at s t f first here few same prints =
+    let m = f.merging in
+    let turn = turn_of news at s f.shows first here in
+    let p = prints turn.found turn.last in
+    let l = next_listed w olds news number old new p.0 out so_far writes written at s f first turn few p.1 in
+    subst (λ (x : SourceValue). IsMerging w olds (set news at x) (number + 1) new out after writes last) (sym same)
+    (record {
+      frames = l.frames;
+      merged = m.merged ++ turn.found.frame ∷ [];
+      text = m.text ++ p.0;
+      long = length-set news at (given s) ∙ m.long;
+      reads = l.reads;
+      merges = l.merges;
+      counted = omega (arith, m.counted, length-append m.merged (turn.found.frame ∷ []));
+      lists = l.lists;
+      printed = Appends-more out so_far after m.text p.0 m.printed p.2;
+      wrote = grows_on writes written last m.wrote p.3;
+    })
+
+same_set : (xs : List SourceValue) (i : ℕ) (x : SourceValue) → slice_get xs i ≡ Some x → set xs i x ≡ xs
+same_set [] i x is = refl
+same_set (y ∷ xs) zero x is = let same : y ≡ x = cc is in ap (λ (z : SourceValue). z ∷ xs) (sym same)
+same_set (y ∷ xs) (suc i) x is = ap (λ (zs : List SourceValue). y ∷ zs) (same_set xs i x is)
+
+pub not_printed : (w : Asked) (olds news : List SourceValue) (number : ℕ) (old new final : Listing) (out so_far after : Option (List ℕ)) (writes written last : Calls) (at : ℕ) (s t : SourceValue) (why : PrintFault)
+    → IsFilled w olds news number old out so_far writes written → IsFirst news at → slice_get news at ≡ Some s
+    → is_enough old.asked.wanted old.shown ≡ false → GivenAt (Err why) s t
+    → ((found : Numbered) → last_of s.file ≡ Some found → PrintsFrame (number + 1) found.frame old new so_far after written last (Err why))
+    → PrintsList w olds (set news at t) out after writes last final (Err why)
+not_printed w olds news number old new final out so_far after writes written last at s t Write f first here few same prints =
+    let m = f.merging in
+    let turn = turn_of news at s f.shows first here in
+    let p = prints turn.found turn.last in
+    subst (λ (x : SourceValue). PrintsList w olds (set news at x) out after writes last final (Err Write)) (sym same) (
+      new,
+      m.text ++ p.0,
+      m.merged ++ turn.found.frame ∷ [],
+      next_listed w olds news number old new p.0 out so_far writes written at s f first turn few p.1,
+      front_after out so_far after m.text p.0 m.printed p.2,
+      fails_from writes written last m.wrote p.3,
     )
-not_printed asked before now left out mid after calls midway later writes written last file new old s made found NoMemory w r few p = (
-  w.got ++ r.got,
-  Consumes-more before now left w.got r.got w.consumes r.consumes,
-  (
-    old,
-    w.text,
-    record {
-      frames = w.frames;
-      last = file.context;
-      rest = file.room.rest ++ r.got;
-      listed = record { spells = spells_on Beginning file.context w.got r.got file.room.rest w.frames w.spells; lists = w.lists };
-    },
-    Appends-kept out mid after w.text w.printed p,
-  ),
-)
-
--- ---- no frame came
-
--- there are enough lines
-pub prints_enough : (asked : Asked) (before now out mid : Option (List ℕ)) (calls midway writes written : Calls) (file : FileValue) (old : Listing)
-    → IsPrinting asked before now calls midway file old out mid writes written → is_enough old.asked.wanted old.shown ≡ true
-    → (bytes : List ℕ) × Consumes before now bytes × PrintsList asked bytes now calls midway out mid writes written old (Ok Enough)
-prints_enough asked before now out mid calls midway writes written file old w enough = (
-  w.got,
-  w.consumes,
-  (
-    w.text,
-    (
-      record {
-        frames = w.frames;
-        last = file.context;
-        rest = file.room.rest;
-        listed = record { spells = w.spells; lists = w.lists };
-      },
-      enough,
-    ),
-    w.printed,
-    w.wrote,
-  ),
-)
-
--- the file ends
-pub prints_whole : (asked : Asked) (before now left out mid : Option (List ℕ)) (calls midway later writes written : Calls) (file new : FileValue) (old : Listing)
-    → IsPrinting asked before now calls midway file old out mid writes written → ReadsOn file now left midway later (Ok None) new
-    → (bytes : List ℕ) × Consumes before left bytes × PrintsList asked bytes left calls later out mid writes written old (Ok Whole)
-prints_whole asked before now left out mid calls midway later writes written file new old w r = (
-  w.got ++ r.got,
-  Consumes-more before now left w.got r.got w.consumes r.consumes,
-  (
-    w.text,
-    record {
-      frames = w.frames;
-      last = new.context;
-      listed = record {
-        spells = subst (λ (fs : List FrameValue). Spells Beginning (w.got ++ r.got) fs new.context []) (append-nil w.frames)
-            (spells_came Beginning file.context new.context w.got r.got file.room.rest [] w.frames [] w.spells r.finds.0);
-        lists = w.lists;
-      };
-      begun = r.finds.2;
-      at_end = r.finds.1;
-    },
-    w.printed,
-    w.wrote,
-  ),
-)
-
-unread_longer : (calls midway later : Calls) (room : RoomValue) → GrowTo calls midway → ShowsReadFault midway later ⊎ (room.taken ≡ room.most)
-    → ShowsReadFault calls later ⊎ (room.taken ≡ room.most)
-unread_longer calls midway later room g (inl h) = inl (cut_from calls midway later g h)
-unread_longer calls midway later room g (inr h) = inr h
-
-pub stops_longer : (c : Context) (bytes : List ℕ) (left : Option (List ℕ)) (calls midway later : Calls) (room : RoomValue) (why : FileFault) → GrowTo calls midway
-    → Stops c bytes left midway later room why → Stops c bytes left calls later room why
-stops_longer c bytes left calls midway later room _ g (bad why is) = bad why is
-stops_longer c bytes left calls midway later room _ g (cut u at_end not_end) = cut u at_end not_end
-stops_longer c bytes left calls midway later room _ g (unread u shows) = unread u (unread_longer calls midway later room g shows)
-stops_longer c bytes left calls midway later room _ g no_memory = no_memory
-
--- the file can't be read further
-pub prints_stopped : (asked : Asked) (before now left out mid : Option (List ℕ)) (calls midway later writes written : Calls) (file new : FileValue) (old : Listing) (why : FileFault) (ending : Ending)
-    → IsPrinting asked before now calls midway file old out mid writes written → ReadsOn file now left midway later (Err why) new
-    → ending ≡ Stopped why new.frames new.place
-    → (bytes : List ℕ) × Consumes before left bytes × PrintsList asked bytes left calls later out mid writes written old (Ok ending)
-prints_stopped asked before now left out mid calls midway later writes written file new old why ending w r is = rw is (
-    let f = r.finds in (
-      w.got ++ r.got,
-      Consumes-more before now left w.got r.got w.consumes r.consumes,
-      (
-        w.text,
-        record {
-          frames = w.frames;
-          last = new.context;
-          rest = f.0;
-          listed = record {
-            spells = subst (λ (fs : List FrameValue). Spells Beginning (w.got ++ r.got) fs new.context f.0) (append-nil w.frames)
-                (spells_came Beginning file.context new.context w.got r.got file.room.rest f.0 w.frames [] w.spells f.1);
-            lists = w.lists;
-          };
-          number_is = f.4 ∙ w.counted;
-          place_is = place_on file.place (new.place + length f.0) file.room.rest r.got w.got w.place_is f.3;
-          room = new.room;
-          kept = omega (arith, w.kept, r.taken, length-append w.got r.got);
-          most = r.most ∙ w.most;
-          stops = stops_longer new.context f.0 left calls midway later new.room why w.grow f.2;
-        },
-        w.printed,
-        w.wrote,
-      ),
-    )
+not_printed w olds news number old new final out so_far after writes written last at s t NoMemory f first here few same prints =
+    let m = f.merging in
+    let turn = turn_of news at s f.shows first here in
+    let kept : set news at t ≡ news = ap (set news at) same ∙ same_set news at s here in
+    subst (λ (xs : List SourceValue). PrintsList w olds xs out after writes last final (Err NoMemory)) (sym kept) (
+      old,
+      m.text,
+      m.merged,
+      are_listed w olds news number old out so_far writes written m,
+      Appends-kept out so_far after m.text m.printed (prints turn.found turn.last),
     )
 
 -- ---- the counts
 
--- all is printed
-pub counts_after : (asked : Asked) (before left out mid after : Option (List ℕ)) (calls later writes written : Calls) (new : Listing) (ending : Ending)
-    → (bytes : List ℕ) × Consumes before left bytes × PrintsList asked bytes left calls later out mid writes written new (Ok ending)
-    → Appends mid after (last_text new) → (last : Calls)
-    → (bytes : List ℕ) × Consumes before left bytes × Prints asked bytes left calls later out after writes last (Ok ending)
-counts_after asked before left out mid after calls later writes written new ending t a last =
-    (t.0, t.1, (new, t.2.0, t.2.1, Appends-more out mid after t.2.0 (last_text new) t.2.2 a))
+pub counts_printed : (w : Asked) (olds news : List SourceValue) (out mid after : Option (List ℕ)) (writes written last : Calls) (new : Listing)
+    → PrintsList w olds news out mid writes written new (Ok tt) → (result : Result Unit PrintFault) → PrintsLast new mid after written last result
+    → Prints w olds news out after writes last result
+counts_printed w olds news out mid after writes written last new (text, merged, listed, done, printed, wrote) (Ok unit) p =
+    (new, text, merged, listed, done, Appends-more out mid after text (last_text new) printed p)
+counts_printed w olds news out mid after writes written last new (text, merged, listed, done, printed, wrote) (Err Write) p =
+    (new, text, merged, listed, inr (done, front_after out mid after text (last_text new) printed p.0), fails_from writes written last wrote p.1)
+counts_printed w olds news out mid after writes written last new (text, merged, listed, done, printed, wrote) (Err NoMemory) p =
+    (new, text, merged, listed, Appends-kept out mid after text printed p)
 
--- some first frames of what was read
-ends_front : (asked : Asked) (ending : Ending) (bytes : List ℕ) (left : Option (List ℕ)) (calls later : Calls) (new : Listing) (text : List ℕ)
-    → Ends asked ending bytes left calls later new text → IsFront asked bytes new text
-ends_front asked Whole bytes left calls later new text e = record { frames = e.frames; last = e.last; rest = []; listed = e.listed }
-ends_front asked Enough bytes left calls later new text e = e.0
-ends_front asked (Stopped why n place) bytes left calls later new text e = record { frames = e.frames; last = e.last; rest = e.rest; listed = e.listed }
-
--- the counts aren't printed whole
-pub no_counts_after : (asked : Asked) (before left out mid after : Option (List ℕ)) (calls later writes written last : Calls) (new : Listing) (ending : Ending) (why : PrintFault)
-    → (bytes : List ℕ) × Consumes before left bytes × PrintsList asked bytes left calls later out mid writes written new (Ok ending)
-    → PrintsLast new mid after written last (Err why)
-    → (bytes : List ℕ) × Consumes before left bytes × Prints asked bytes left calls later out after writes last (Err why)
-no_counts_after asked before left out mid after calls later writes written last new ending Write t p = (
-  t.0,
-  t.1,
-  (
-    inr (ending, new, t.2.0, t.2.1, front_after out mid after t.2.0 (last_text new) t.2.2 p.0),
-    fails_from writes written last t.2.3 p.1,
-  ),
-)
-no_counts_after asked before left out mid after calls later writes written last new ending NoMemory t p = (
-  t.0,
-  t.1,
-  (
-    new,
-    t.2.0,
-    ends_front asked ending t.0 left calls later new t.2.0 t.2.1,
-    Appends-kept out mid after t.2.0 t.2.2 p,
-  ),
-)
-
--- the list isn't printed whole
-pub no_list : (asked : Asked) (before left out after : Option (List ℕ)) (calls later writes written : Calls) (new : Listing) (why : PrintFault)
-    → (bytes : List ℕ) × Consumes before left bytes × PrintsList asked bytes left calls later out after writes written new (Err why)
-    → (bytes : List ℕ) × Consumes before left bytes × Prints asked bytes left calls later out after writes written (Err why)
-no_list asked before left out after calls later writes written new Write t = (t.0, t.1, (inl (t.2.0, t.2.1, t.2.2, t.2.3), t.2.4))
-no_list asked before left out after calls later writes written new NoMemory t = t
+pub list_unprinted : (w : Asked) (olds news : List SourceValue) (out after : Option (List ℕ)) (writes written : Calls) (new : Listing) (why : PrintFault)
+    → PrintsList w olds news out after writes written new (Err why) → Prints w olds news out after writes written (Err why)
+list_unprinted w olds news out after writes written new Write (s, text, merged, listed, front, shows) = (s, text, merged, listed, inl front, shows)
+list_unprinted w olds news out after writes written new NoMemory p = p

@@ -1,11 +1,11 @@
 -- The lines of faults.
-use Rattle.std.proofs.Common.{◌≡◌, ◌∙◌, ◌+◌, ◌++◌, ◌∷◌, ◌≤◌, ℕ, zero, suc, List, [], length, drop, slice_get, Some, Ok, ap, refl, sym, subst, arith, append_assoc}
+use Rattle.std.proofs.Common.{◌≡◌, ◌∙◌, ◌+◌, ◌++◌, ◌∷◌, ◌≤◌, ℕ, zero, suc, List, [], length, drop, slice_get, Some, ap, refl, sym, subst, arith, append_assoc}
 use Rattle.std.proofs.lemmas.Option.{get_or_from_slice_get, slice_get_within}
 use Rattle.std.specs.Borrow.{Bor}
 use Rattle.std.proofs.lemmas.List.{append-nil, drop_more}
 use Rattle.nbt_look.specs.declared.signature.Sort.{Sort}
 use Rattle.nbt_look.specs.FaultTexts.{fault_line}
-use Rattle.nbt_look.specs.Several.{ending_in, faults_text}
+use Rattle.nbt_look.specs.Running.{faults_text}
 use Rattle.nbt_look.specs.Sources.{SourceValue}
 
 -- the lines so far, and those of the files that are left, are all lines, whatever the left ones' sorts
@@ -18,11 +18,11 @@ told_nothing titles sources before = record { sorts = []; all = λ more. refl }
 
 pub told_next : (titles : List (Bor (List ℕ))) (sources : List SourceValue) (before text : List ℕ) (title : Bor (List ℕ)) (left : List (Bor (List ℕ))) (s : SourceValue)
     (others : List SourceValue) (sort : Sort) → IsTold titles sources before text (title ∷ left) (s ∷ others)
-    → IsTold titles sources before (text ++ fault_line title.now sort (Ok (ending_in s.waiting))) left others
+    → IsTold titles sources before (text ++ fault_line title.now sort s.waiting) left others
 told_next titles sources before text title left s others sort t = record {
   sorts = t.sorts ++ sort ∷ [];
   all = λ more.
-      append_assoc text (fault_line title.now sort (Ok (ending_in s.waiting))) (faults_text left more others)
+      append_assoc text (fault_line title.now sort s.waiting) (faults_text left more others)
       ∙ t.all (sort ∷ more)
       ∙ ap (λ (sorts : List Sort). before ++ faults_text titles sorts sources) (sym (append_assoc t.sorts (sort ∷ []) more));
 }
@@ -63,7 +63,7 @@ told_through titles sources before text left i t le =
 
 pub told_one : (titles : List (Bor (List ℕ))) (sources : List SourceValue) (before text now : List ℕ) (i : ℕ) (title : Bor (List ℕ)) (s : SourceValue) (sort : Sort)
     → IsTold titles sources before text (drop i titles) (drop i sources) → slice_get titles i ≡ Some title → slice_get sources i ≡ Some s
-    → now ≡ text ++ fault_line title.now sort (Ok (ending_in s.waiting)) → IsTold titles sources before now (drop (i + 1) titles) (drop (i + 1) sources)
+    → now ≡ text ++ fault_line title.now sort s.waiting → IsTold titles sources before now (drop (i + 1) titles) (drop (i + 1) sources)
 told_one titles sources before text now i title s sort t here this is =
     subst (λ (x : List ℕ). IsTold titles sources before x (drop (i + 1) titles) (drop (i + 1) sources)) (sym is)
     (told_next titles sources before text title (drop (i + 1) titles) s (drop (i + 1) sources) sort

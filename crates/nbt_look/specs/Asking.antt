@@ -1,11 +1,12 @@
 -- What words of the command line mean (our choice).
-use Rattle.std.specs.Prelude.{◌≡◌, ℕ, ◌≤◌, Bool, List, ◌∷◌, ◌++◌, cond}
+use Rattle.std.specs.Prelude.{◌≡◌, ℕ, ◌≤◌, Bool, not, List, ◌∷◌, ◌++◌, bytes_eq, codes, cond, Option, None, Some}
 use Rattle.core.specs.Str.Parse.{digits_value, without_leading_plus}
 use Rattle.std.specs.Net.Grammar.{IsIpText}
 use Rattle.std.specs.declared.net.ip_addr.IpAddr.{IpAddr}
 use Rattle.std.specs.declared.net.ip_addr.IpAddr.TheVariants.{V4, V6}
 use Rattle.nbt_look.specs.declared.asked.Asked.{Asked}
-use Rattle.nbt_look.specs.declared.asked.Form.TheVariants.{Objects, ObjectsAlone}
+use Rattle.nbt_look.specs.declared.asked.Form.{Form}
+use Rattle.nbt_look.specs.declared.asked.Form.TheVariants.{Lines, Colours, Objects}
 use Rattle.nbt_look.specs.declared.asked.Times.TheVariants.{Utc}
 use Rattle.nbt_look.specs.declared.wanted.Filter.{Filter}
 use Rattle.nbt_look.specs.declared.wanted.Prefix.{Prefix}
@@ -27,4 +28,12 @@ pub data MeansPrefix (word : List ℕ) (prefix : Prefix) : Type 0 where
 
 -- objects_asked wanted is_quiet: what is asked where packets are shown as objects, whose times are in UTC
 abbrev pub objects_asked : Filter → Bool → Asked
-objects_asked wanted is_quiet = record { wanted = wanted; times = Utc; form = cond is_quiet ObjectsAlone Objects }
+objects_asked wanted is_quiet = record { wanted = wanted; times = Utc; form = Objects; has_counts = not is_quiet }
+
+-- form_of word is_plain: how lines are shown where `--color` has this word, on an output that is plain, or isn't
+abbrev pub form_of : List ℕ → Bool → Option Form
+form_of word is_plain =
+    cond (bytes_eq word (codes "auto")) (Some (cond is_plain Lines Colours))
+    (cond (bytes_eq word (codes "always")) (Some Colours)
+    (cond (bytes_eq word (codes "never")) (Some Lines)
+    None))

@@ -11,13 +11,9 @@ use Rattle.nbt_look.specs.Heading.{IsHeading}
 use Rattle.nbt_look.specs.Kinds.{is_of_kinds}
 use Rattle.nbt_look.specs.Wanted.{is_any, looks_inside, wants}
 
--- whether a packet of which this was heard has a name that is wanted; any does where none is
-abbrev pub is_named : Filter → Heard → Bool
-is_named filter heard = is_any filter.names || heard.is_named
-
--- whether a packet of which this is known has a name that is wanted, and is of a kind that is
+-- whether a packet of which this is known has a name that is wanted, and is of a kind that is; any does where none is named
 abbrev pub fits : Filter → Marks → Bool
-fits filter marks = is_named filter marks.heard && is_of_kinds filter.kinds marks
+fits filter marks = (is_any filter.names || marks.heard.is_named) && is_of_kinds filter.kinds marks
 
 -- FitsInside filter payload port o is: whether a payload that came to the port, of a packet that counts so, has a name that is wanted, and is
 -- of a kind that is

@@ -5,29 +5,21 @@ use Rattle.clap.specs.Simple.{on_top}
 use Rattle.clap.specs.declared.builder.action.ArgAction.TheVariants.{Append, Set, SetTrue}
 use Rattle.clap.specs.declared.builder.value_parser.ValueParser.TheVariants.{Unsigned}
 
--- `--quiet`, which is given or not
-abbrev pub quiet_rule : Rule
-quiet_rule = record (new_rule (codes "quiet")) { long = Some (codes "quiet"); action = Some SetTrue }
+-- an option of this name without a value
+abbrev pub flag_rule : Text → Rule
+flag_rule name = record (new_rule name) { long = Some name; action = Some SetTrue }
 
--- an option of this name with a value, any number of times
+-- one with a value, which is given once
+abbrev pub once_rule : Text → Rule
+once_rule name = record (new_rule name) { long = Some name; action = Some Set; value_names = 1 }
+
+-- one with a value, any number of times
 abbrev pub repeated_rule : Text → Rule
 repeated_rule name = record (new_rule name) { long = Some name; action = Some Append; value_names = 1 }
-
--- `--name TEXT`
-abbrev pub name_rule : Rule
-name_rule = repeated_rule (codes "name")
-
--- `--host ADDRESS`
-abbrev pub host_rule : Rule
-host_rule = repeated_rule (codes "host")
 
 -- `--port PORT`, a number of sixteen bits
 abbrev pub port_rule : Rule
 port_rule = record (repeated_rule (codes "port")) { parser = Some (Unsigned 0 65_535) }
-
--- `--kind KIND,..`
-abbrev pub kind_rule : Rule
-kind_rule = repeated_rule (codes "kind")
 
 -- `-c N`, from 1 to the greatest number of 64 bits
 abbrev pub count_rule : Rule
@@ -53,28 +45,14 @@ files_rule = record (new_rule (codes "FILE")) {
 abbrev pub top_app : App
 top_app = on_top (λ s. record s { has_version = true }) (new_app (codes "nbt-look"))
 
--- `--time WHEN`
-abbrev pub time_rule : Rule
-time_rule = record (new_rule (codes "time")) { long = Some (codes "time"); action = Some Set; value_names = 1 }
-
--- `--color WHEN`
-abbrev pub colour_rule : Rule
-colour_rule = record (new_rule (codes "color")) { long = Some (codes "color"); action = Some Set; value_names = 1 }
-
--- the same with the options of what is wanted
+-- the same with `--quiet`, and the options of what is wanted: `--name TEXT`, `--host ADDRESS`, `--port PORT`, `--kind KIND,..`, `-c N`
 abbrev pub with_filters : App
 with_filters =
-    with_rule (with_rule (with_rule (with_rule (with_rule (with_rule top_app quiet_rule) name_rule) host_rule) port_rule) kind_rule) count_rule
+    with_rule (with_rule (with_rule (with_rule (with_rule (with_rule top_app (flag_rule (codes "quiet"))) (repeated_rule (codes "name")))
+    (repeated_rule (codes "host"))) port_rule) (repeated_rule (codes "kind"))) count_rule
 
--- `--json`, which is given or not
-abbrev pub json_rule : Rule
-json_rule = record (new_rule (codes "json")) { long = Some (codes "json"); action = Some SetTrue }
-
--- the same with the options of how packets are shown, and of files
-abbrev pub with_options : App
-with_options = with_rule (with_rule (with_rule (with_rule with_filters time_rule) colour_rule) json_rule) read_rule
-
--- the whole command line: `[--quiet] [--name TEXT].. [--host ADDRESS].. [--port PORT].. [--kind KIND,..].. [-c N] [--time WHEN] [--color WHEN] [--json]
--- [-r FILE].. [FILE]..`
+-- the whole command line: with those of how packets are shown, `--time WHEN`, `--color WHEN`, `--json`, and of files, `-r FILE` and FILE
 abbrev pub look_app : App
-look_app = with_rule with_options files_rule
+look_app =
+    with_rule (with_rule (with_rule (with_rule (with_rule with_filters (once_rule (codes "time"))) (once_rule (codes "color")))
+    (flag_rule (codes "json"))) read_rule) files_rule

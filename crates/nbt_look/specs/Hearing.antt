@@ -13,13 +13,9 @@ abbrev pub is_wanted_field : List (List ℕ) → Field → Bool
 is_wanted_field wanted (Text tag value) = is_wanted_name wanted tag.name value
 is_wanted_field wanted _ = false
 
--- whether digits that are told under this tag are the type of a node's status, 0021
-abbrev pub is_status_type : List ℕ → List ℕ → Bool
-is_status_type tag digits = bytes_eq tag (codes "type") && bytes_eq digits (0 ∷ 0x21 ∷ [])
-
--- whether a field is
+-- whether a field is the type of a node's status, 0021
 abbrev pub is_status_field : Field → Bool
-is_status_field (Digits tag digits) = is_status_type tag.name digits
+is_status_field (Digits tag digits) = bytes_eq tag.name (codes "type") && bytes_eq digits (0 ∷ 0x21 ∷ [])
 is_status_field _ = false
 
 -- whether the flag of a name in conflict is one of these
@@ -30,13 +26,9 @@ has_conflict names = list_any (λ name. bytes_eq name (codes "CNF")) names
 abbrev pub sets_conflict : Flag → Bool
 sets_conflict f = f.is_set && bytes_eq f.name.now (codes "CNF")
 
--- whether flags that are told under this tag say that a node's name is in conflict
-abbrev pub is_in_conflict : List ℕ → List (List ℕ) → Bool
-is_in_conflict tag names = bytes_eq tag (codes "set") && has_conflict names
-
--- whether a field does
+-- whether a field says that a node's name is in conflict
 abbrev pub is_conflict_field : Field → Bool
-is_conflict_field (Set tag names) = is_in_conflict tag.name names
+is_conflict_field (Set tag names) = bytes_eq tag.name (codes "set") && has_conflict names
 is_conflict_field _ = false
 
 -- what was heard so far, where these names are wanted

@@ -1,5 +1,5 @@
 -- The kinds of packets (our choice), by the header (RFC 1002 sections 4.2.1.1 and 4.4.1) and what stands behind it.
-use Rattle.std.specs.Prelude.{ℕ, ◌&&◌, ◌||◌, Bool, true, false, not, List, [], ◌∷◌, codes, nat_eq, nat_le}
+use Rattle.std.specs.Prelude.{ℕ, ◌&&◌, ◌||◌, Bool, true, false, not, List, codes, nat_eq, nat_le}
 use Rattle.std.specs.List.{list_any}
 use Rattle.nb_service.specs.Header.{opcode_of, rcode_of}
 use Rattle.nbt_look.specs.declared.counting.Outcome.{Outcome}
@@ -10,6 +10,7 @@ use Rattle.nbt_look.specs.declared.heading.Heading.TheVariants.{Names, Datagram 
 use Rattle.nbt_look.specs.declared.kinds.Kind.{Kind}
 use Rattle.nbt_look.specs.declared.kinds.Kind.TheVariants as kind
 use Rattle.nbt_look.specs.declared.kinds.Marks.{Marks}
+use Rattle.nbt_look.specs.Wanted.{is_any}
 
 -- the word for a kind
 abbrev pub kind_word : Kind → List ℕ
@@ -41,43 +42,36 @@ kind_word kind.LeftOut = codes "left-out"
 abbrev pub is_response : ℕ → Bool
 is_response word = nat_le 0x8000 word
 
--- does word operation: this is its OPCODE
-abbrev pub does : ℕ → ℕ → Bool
-does word operation = nat_eq (opcode_of word) operation
-
--- says word code: this is its RCODE
-abbrev pub says : ℕ → ℕ → Bool
-says word code = nat_eq (rcode_of word) code
-
--- a registration, 5 (4.2.2); that 15 is one, of a host of several addresses, is our choice
+-- a registration is 5 (4.2.2); that 15 is one, of a host of several addresses, is our choice
 abbrev pub is_claim : ℕ → Bool
-is_claim word = does word 5 || does word 15
+is_claim operation = nat_eq operation 5 || nat_eq operation 15
 
--- a refresh, 9 (4.2.4); that 8 is one too is our choice
+-- a refresh is 9 (4.2.4); that 8 is one too is our choice
 abbrev pub is_refresh : ℕ → Bool
-is_refresh word = does word 8 || does word 9
+is_refresh operation = nat_eq operation 8 || nat_eq operation 9
 
--- CFT_ERR, 7, by which a name is in conflict (4.2.8), or ACT_ERR, 6, by which one that is asked for is another station's (4.2.6)
-abbrev pub is_taken : ℕ → Bool
-is_taken word = says word 7 || (says word 6 && (is_claim word || is_refresh word))
+-- is_taken operation code: CFT_ERR, 7, by which a name is in conflict (4.2.8), or ACT_ERR, 6, by which one that is asked for is another
+-- station's (4.2.6)
+abbrev pub is_taken : ℕ → ℕ → Bool
+is_taken operation code = nat_eq code 7 || (nat_eq code 6 && (is_claim operation || is_refresh operation))
 
--- a name conflict demand (4.2.8), which answers nothing
-abbrev pub is_demand : ℕ → Bool
-is_demand word = does word 5 && says word 7
+-- is_demand operation code: a name conflict demand (4.2.8), which answers nothing
+abbrev pub is_demand : ℕ → ℕ → Bool
+is_demand operation code = nat_eq operation 5 && nat_eq code 7
 
 -- names_kind kind word heard: whether a packet of this flag word is of this kind, where this was heard of its questions and records:
--- 0 is a query, 6 a release, 7 a WACK (4.2.1.1)
+-- OPCODE 0 is a query, 6 a release, 7 a WACK (4.2.1.1)
 abbrev pub names_kind : Kind → ℕ → Heard → Bool
-names_kind kind.Query word heard = does word 0 && not heard.status
+names_kind kind.Query word heard = nat_eq (opcode_of word) 0 && not heard.status
 names_kind kind.Status word heard = heard.status
-names_kind kind.Registration word heard = is_claim word && not heard.status
-names_kind kind.Refresh word heard = is_refresh word && not heard.status
-names_kind kind.Release word heard = does word 6 && not heard.status
-names_kind kind.Wack word heard = does word 7 && not heard.status
+names_kind kind.Registration word heard = is_claim (opcode_of word) && not heard.status
+names_kind kind.Refresh word heard = is_refresh (opcode_of word) && not heard.status
+names_kind kind.Release word heard = nat_eq (opcode_of word) 6 && not heard.status
+names_kind kind.Wack word heard = nat_eq (opcode_of word) 7 && not heard.status
 names_kind kind.Response word heard = is_response word
-names_kind kind.Conflict word heard = is_response word && (is_taken word || heard.conflict)
-names_kind kind.Positive word heard = is_response word && (says word 0 && not (does word 7))
-names_kind kind.Negative word heard = is_response word && (not (says word 0) && not (is_demand word))
+names_kind kind.Conflict word heard = is_response word && (is_taken (opcode_of word) (rcode_of word) || heard.conflict)
+names_kind kind.Positive word heard = is_response word && (nat_eq (rcode_of word) 0 && not (nat_eq (opcode_of word) 7))
+names_kind kind.Negative word heard = is_response word && (not (nat_eq (rcode_of word) 0) && not (is_demand (opcode_of word) (rcode_of word)))
 names_kind _ word heard = false
 
 -- ---- port 138
@@ -110,10 +104,6 @@ by_heading k (Names word) heard = names_kind k word heard
 by_heading k (Message type is_piece) heard = datagram_kind k type is_piece
 by_heading k Nothing heard = false
 
--- the same of what is known of a packet
-abbrev pub heading_kind : Kind → Marks → Bool
-heading_kind k marks = by_heading k marks.heading marks.heard
-
 -- whether a packet that counts so is malformed
 abbrev pub is_malformed : Outcome → Bool
 is_malformed outcome.Malformed = true
@@ -128,7 +118,7 @@ is_left_out _ = false
 abbrev pub is_of : Kind → Marks → Bool
 is_of kind.Malformed marks = is_malformed marks.outcome
 is_of kind.LeftOut marks = is_left_out marks.outcome
-is_of k marks = heading_kind k marks
+is_of k marks = by_heading k marks.heading marks.heard
 
 -- whether it is of one of these kinds
 abbrev pub is_of_any : List Kind → Marks → Bool
@@ -136,5 +126,4 @@ is_of_any kinds marks = list_any (λ one. is_of one marks) kinds
 
 -- the same; it is where none is named
 abbrev pub is_of_kinds : List Kind → Marks → Bool
-is_of_kinds [] marks = true
-is_of_kinds (k ∷ ks) marks = is_of_any (k ∷ ks) marks
+is_of_kinds kinds marks = is_any kinds || is_of_any kinds marks

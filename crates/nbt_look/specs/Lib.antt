@@ -22,4 +22,3 @@ pub mod Colours
 pub mod Choosing
 pub mod Merging
 pub mod Sources
-pub mod Several

@@ -15,9 +15,9 @@ use Rattle.nbt_look.specs.declared.lister.Lister.{Lister}
 use Rattle.nbt_look.specs.declared.listing.Listing.{Listing}
 use Rattle.nbt_look.specs.declared.asked.Asked.{Asked}
 use Rattle.nbt_look.specs.declared.asked.Form.{Form}
-use Rattle.nbt_look.specs.declared.asked.Form.TheVariants.{Lines, Colours, Objects, ObjectsAlone}
+use Rattle.nbt_look.specs.declared.asked.Form.TheVariants.{Lines, Colours, Objects}
 use Rattle.nbt_look.specs.declared.widths.Widths.{Widths}
-use Rattle.nbt_look.specs.Colours.{IsColoured}
+use Rattle.nbt_look.specs.Colours.{IsColourOf}
 use Rattle.nbt_look.specs.Columns.{CellTexts, first_widths, widened, line_text}
 use Rattle.nbt_look.specs.Counting.{no_counts, counted, more, unread}
 use Rattle.nbt_look.specs.Ends.{end_text, first_label, label_of, mark_in}
@@ -72,7 +72,6 @@ abbrev pub printed : Form → List ℕ → List ℕ → List ℕ
 printed Lines line object = line
 printed Colours line object = line
 printed Objects line object = object
-printed ObjectsAlone line object = object
 
 -- the same of the frame that came last
 abbrev pub text_in : Lister → List ℕ
@@ -81,10 +80,10 @@ text_in l = printed l.listing.asked.form (string_bytes l.text) l.room
 -- Shows form first widths cells n f d port o phrase text: the text of frame n, which has this datagram and counts so, with these cells and
 -- this phrase; first is the time of the first frame that has one
 abbrev pub Shows : Form → Option ℕ → Widths → CellTexts → ℕ → FrameValue → UdpDatagram → ℕ → Outcome → List ℕ → List ℕ → Type 0
-Shows Lines first widths cells n f d port o phrase text = text ≡ line_text widths cells phrase
-Shows Colours first widths cells n f d port o phrase text = IsColoured o d.payload.bytes port widths cells phrase text
+Shows Lines first widths cells n f d port o phrase text = text ≡ line_text [] widths cells phrase
+Shows Colours first widths cells n f d port o phrase text =
+    (colour : List ℕ) × IsColourOf o d.payload.bytes port colour × (text ≡ line_text colour widths cells phrase)
 Shows Objects first widths cells n f d port o phrase text = IsPacketObject n f d port first cells.time phrase text
-Shows ObjectsAlone first widths cells n f d port o phrase text = IsPacketObject n f d port first cells.time phrase text
 
 -- HasLine now at n f d port o phrase new text: the text of frame n, which has this datagram and counts so, whose time is shown so, with this
 -- phrase

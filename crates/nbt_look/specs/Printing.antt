@@ -1,77 +1,74 @@
--- What is printed of a capture file: the list of its frames, as far as it can be read, and then the counts (our choice).
-use Rattle.std.specs.Prelude.{◌≡◌, ◌⊎◌, ◌+◌, ◌-◌, ◌^◌, ◌++◌, ℕ, true, List, [], length, Option, Result, Ok, Err}
-use Rattle.std.specs.Io.KnownBytes.{Appends, IsAtEnd, Keeps}
+-- What is printed of capture files: the list of their frames by time, as far as they can be read, and then the counts (our choice).
+use Rattle.std.specs.Prelude.{◌≡◌, ◌⊎◌, ◌-◌, ◌^◌, ◌++◌, ℕ, true, List, [], length, slice_get, Option, Some, None, Result, Ok, Err}
+use Rattle.std.specs.Io.KnownBytes.{Appends, Keeps}
 use Rattle.nb_streams.specs.Counted.{Counts as Calls}
 use Rattle.nb_streams.specs.Devices.{AppendsFront, GrowTo, ShowsWriteFault}
-use Rattle.nb_streams.specs.Room.{RoomValue}
-use Rattle.nb_pcap.specs.declared.context.Context.{Context}
-use Rattle.nb_pcap.specs.declared.context.Context.TheVariants.{Beginning}
-use Rattle.nb_pcap.specs.declared.fault.FileFault.{FileFault}
-use Rattle.nb_pcap.specs.File.{Spells}
 use Rattle.nb_pcap.specs.Frame.{FrameValue}
-use Rattle.nb_pcap.specs.Reading.{FileValue}
-use Rattle.nb_pcap.specs.Steps.{Stops}
-use Rattle.nbt_look.specs.declared.printing.Ending.{Ending}
-use Rattle.nbt_look.specs.declared.printing.Ending.TheVariants.{Whole, Enough, Stopped}
 use Rattle.nbt_look.specs.declared.printing.PrintFault.{PrintFault}
 use Rattle.nbt_look.specs.declared.printing.PrintFault.TheVariants.{Write, NoMemory}
+use Rattle.nbt_look.specs.declared.sources.Waiting.{Waiting}
+use Rattle.nbt_look.specs.declared.sources.Waiting.TheVariants.{Unread, Frame, Ended}
 use Rattle.nbt_look.specs.declared.listing.Listing.{Listing}
 use Rattle.nbt_look.specs.declared.asked.Asked.{Asked}
 use Rattle.nbt_look.specs.Listing.{Lists, ListsAll, nothing_listed}
+use Rattle.nbt_look.specs.Merging.{Merges, with_more}
+use Rattle.nbt_look.specs.Sources.{AreRead, SourceValue, given, held_of, unread}
 use Rattle.nbt_look.specs.Totals.{last_text}
 use Rattle.nbt_look.specs.Wanted.{is_enough}
 
--- IsListed w bytes frames last rest new text: these bytes of a file are parts that give these frames, whose list is this text where
--- this is asked, and a rest; then `new` stands
-pub record IsListed (w : Asked) (bytes : List ℕ) (frames : List FrameValue) (last : Context) (rest : List ℕ) (new : Listing) (text : List ℕ) : Type 0 where
-  pub spells : Spells Beginning bytes frames last rest
-  pub lists : ListsAll 1 frames (nothing_listed w) new text
+-- nothing was read of these files
+abbrev pub AreUnread : List SourceValue → Type 0
+AreUnread sources = (i : ℕ) (s : SourceValue) → slice_get sources i ≡ Some s → s ≡ unread s.known
 
--- IsWhole w bytes left new text: the bytes are a whole file, whose list is this text
-pub record IsWhole (w : Asked) (bytes : List ℕ) (left : Option (List ℕ)) (new : Listing) (text : List ℕ) : Type 0 where
-  pub frames : List FrameValue
-  pub last : Context
-  pub listed : IsListed w bytes frames last [] new text
-  pub begun : last ≡ Beginning → ⊥
-  pub at_end : IsAtEnd left
+-- MayGive waiting more: these may be the frames that a file has beside those that were read: none where it was read to its end
+abbrev pub MayGive : Waiting → List FrameValue → Type 0
+MayGive Unread more = Unit
+MayGive (Frame time) more = Unit
+MayGive (Ended ending) more = more ≡ []
 
--- IsStopped w bytes left calls later new text fault n place: the bytes are the parts that give so many frames, whose list is this text,
--- and this rest, which begins at this byte, and of which no part is read, for this fault. The room has what is known of how much may
--- be read: fewer than 2^64 bytes
-pub record IsStopped (w : Asked) (bytes : List ℕ) (left : Option (List ℕ)) (calls later : Calls) (new : Listing) (text : List ℕ) (fault : FileFault) (n place : ℕ) : Type 0 where
-  pub frames : List FrameValue
-  pub last : Context
-  pub rest : List ℕ
-  pub listed : IsListed w bytes frames last rest new text
-  pub number_is : n ≡ length frames
-  pub place_is : place + length rest ≡ length bytes
-  pub room : RoomValue
-  pub kept : room.taken ≡ length bytes
-  pub most : room.most ≡ 2 ^ 64 - 1
-  pub stops : Stops last rest left calls later room fault
+-- the same at a place where there may be no file
+abbrev pub MayGiveOf : Option SourceValue → List FrameValue → Type 0
+MayGiveOf None more = more ≡ []
+MayGiveOf (Some s) more = MayGive s.waiting more
 
--- IsFront w bytes new text: this is the list of some first frames of a file that begins with these bytes
-pub record IsFront (w : Asked) (bytes : List ℕ) (new : Listing) (text : List ℕ) : Type 0 where
-  pub frames : List FrameValue
-  pub last : Context
-  pub rest : List ℕ
-  pub listed : IsListed w bytes frames last rest new text
+-- the frames that the files have to give
+abbrev pub held : List SourceValue → ℕ → List FrameValue
+held sources i = held_of (slice_get sources i)
 
--- IsEnough w bytes new text: the same, and as many lines are there as are wanted
-abbrev pub IsEnough : Asked → List ℕ → Listing → List ℕ → Type 0
-IsEnough w bytes new text = IsFront w bytes new text × (is_enough new.asked.wanted new.shown ≡ true)
+-- MergesOn sources frames merged: these are the first frames of the merge, whatever frames the files have beside those that were read
+abbrev pub MergesOn : List SourceValue → (ℕ → List FrameValue) → List FrameValue → Type 0
+MergesOn sources frames merged =
+    (more : ℕ → List FrameValue) → ((i : ℕ) → MayGiveOf (slice_get sources i) (more i))
+    → Merges (with_more frames (with_more (held sources) more)) merged (with_more (held sources) more)
 
--- Ends w ending bytes left calls later new text: how the reading of these bytes ended, whose list is this text
-abbrev pub Ends : Asked → Ending → List ℕ → Option (List ℕ) → Calls → Calls → Listing → List ℕ → Type 0
-Ends w Whole bytes left calls later new text = IsWhole w bytes left new text
-Ends w Enough bytes left calls later new text = IsEnough w bytes new text
-Ends w (Stopped fault n place) bytes left calls later new text = IsStopped w bytes left calls later new text fault n place
+-- AreListed w olds news new text merged: these frames, the first of the merge of what was read of the files, have this text, and `new` stands
+pub record AreListed (w : Asked) (olds news : List SourceValue) (new : Listing) (text : List ℕ) (merged : List FrameValue) : Type 0 where
+  pub frames : ℕ → List FrameValue
+  pub reads : AreRead olds news frames
+  pub merges : MergesOn news frames merged
+  pub lists : ListsAll 1 merged (nothing_listed w) new text
 
--- IsEnding file fault ending: this is how the reading of a file ended whose room is this
-abbrev pub IsEnding : FileValue → FileFault → Ending → Type 0
-IsEnding file fault ending = ending ≡ Stopped fault file.frames file.place
+-- the file was read to its end
+abbrev pub HasEnded : Waiting → Type 0
+HasEnded Unread = ⊥
+HasEnded (Frame time) = ⊥
+HasEnded (Ended ending) = Unit
 
--- ---- the list
+-- AllEnded sources: each file was
+abbrev pub AllEnded : List SourceValue → Type 0
+AllEnded sources = (i : ℕ) (s : SourceValue) → slice_get sources i ≡ Some s → HasEnded s.waiting
+
+-- IsDone news new merged: all files are at their ends, or there are as many lines as are wanted, or as many frames as 64 bits count
+abbrev pub IsDone : List SourceValue → Listing → List FrameValue → Type 0
+IsDone news new merged = AllEnded news ⊎ ((is_enough new.asked.wanted new.shown ≡ true) ⊎ (length merged ≡ 2 ^ 64 - 1))
+
+-- ---- one frame
+
+-- GivenAt result old new: the file has given its frame, but for one of which no text was made
+abbrev pub GivenAt : Result Unit PrintFault → SourceValue → SourceValue → Type 0
+GivenAt (Ok done) old new = new ≡ given old
+GivenAt (Err Write) old new = new ≡ given old
+GivenAt (Err NoMemory) old new = new ≡ old
 
 -- PrintsFrame n f old new before after writes written result: what was printed of frame n
 abbrev pub PrintsFrame : ℕ → FrameValue → Listing → Listing → Option (List ℕ) → Option (List ℕ) → Calls → Calls → Result Unit PrintFault → Type 0
@@ -81,15 +78,19 @@ PrintsFrame n f old new before after writes written (Err Write) =
     (text : List ℕ) × Lists n f old new text × AppendsFront before after text × ShowsWriteFault writes written
 PrintsFrame n f old new before after writes written (Err NoMemory) = Keeps before after
 
--- PrintsList w bytes left calls later before after writes written new result: what was printed of the list of these bytes: at a fault
--- of a write a front of the lines of some first frames, where memory ran out the lines of some first frames
-abbrev pub PrintsList : Asked → List ℕ → Option (List ℕ) → Calls → Calls → Option (List ℕ) → Option (List ℕ) → Calls → Calls → Listing → Result Ending PrintFault → Type 0
-PrintsList w bytes left calls later before after writes written new (Ok ending) =
-    (text : List ℕ) × Ends w ending bytes left calls later new text × Appends before after text × GrowTo writes written
-PrintsList w bytes left calls later before after writes written new (Err Write) =
-    (s : Listing) × (text : List ℕ) × IsFront w bytes s text × AppendsFront before after text × ShowsWriteFault writes written
-PrintsList w bytes left calls later before after writes written new (Err NoMemory) =
-    (s : Listing) × (text : List ℕ) × IsFront w bytes s text × Appends before after text
+-- ---- the list
+
+-- PrintsList w olds news before after writes written new result: what was printed of the list of these files: at a fault of a write a front
+-- of the lines of some first frames, where memory ran out the lines of some first frames
+abbrev pub PrintsList : Asked → List SourceValue → List SourceValue → Option (List ℕ) → Option (List ℕ) → Calls → Calls → Listing → Result Unit PrintFault → Type 0
+PrintsList w olds news before after writes written new (Ok done) =
+    (text : List ℕ) × (merged : List FrameValue) × AreListed w olds news new text merged × IsDone news new merged
+    × Appends before after text × GrowTo writes written
+PrintsList w olds news before after writes written new (Err Write) =
+    (s : Listing) × (text : List ℕ) × (merged : List FrameValue) × AreListed w olds news s text merged
+    × AppendsFront before after text × ShowsWriteFault writes written
+PrintsList w olds news before after writes written new (Err NoMemory) =
+    (s : Listing) × (text : List ℕ) × (merged : List FrameValue) × AreListed w olds news s text merged × Appends before after text
 
 -- ---- the list and the last lines
 
@@ -100,18 +101,13 @@ PrintsLast listing before after writes written (Err Write) =
     AppendsFront before after (last_text listing) × ShowsWriteFault writes written
 PrintsLast listing before after writes written (Err NoMemory) = Keeps before after
 
--- PrintsPart w bytes left calls later before after: a front is printed of the lines of some first frames, or of all lines and the last lines
-abbrev pub PrintsPart : Asked → List ℕ → Option (List ℕ) → Calls → Calls → Option (List ℕ) → Option (List ℕ) → Type 0
-PrintsPart w bytes left calls later before after =
-    ((s : Listing) × (text : List ℕ) × IsFront w bytes s text × AppendsFront before after text)
-    ⊎ ((ending : Ending) × (new : Listing) × (text : List ℕ) × Ends w ending bytes left calls later new text
-    × AppendsFront before after (text ++ last_text new))
-
--- Prints w bytes left calls later before after writes written result: what was printed of a file of these bytes
-abbrev pub Prints : Asked → List ℕ → Option (List ℕ) → Calls → Calls → Option (List ℕ) → Option (List ℕ) → Calls → Calls → Result Ending PrintFault → Type 0
-Prints w bytes left calls later before after writes written (Ok ending) =
-    (new : Listing) × (text : List ℕ) × Ends w ending bytes left calls later new text × Appends before after (text ++ last_text new)
-Prints w bytes left calls later before after writes written (Err Write) =
-    PrintsPart w bytes left calls later before after × ShowsWriteFault writes written
-Prints w bytes left calls later before after writes written (Err NoMemory) =
-    (s : Listing) × (text : List ℕ) × IsFront w bytes s text × Appends before after text
+-- Prints w olds news before after writes written result: what was printed of these files
+abbrev pub Prints : Asked → List SourceValue → List SourceValue → Option (List ℕ) → Option (List ℕ) → Calls → Calls → Result Unit PrintFault → Type 0
+Prints w olds news before after writes written (Ok done) =
+    (new : Listing) × (text : List ℕ) × (merged : List FrameValue) × AreListed w olds news new text merged × IsDone news new merged
+    × Appends before after (text ++ last_text new)
+Prints w olds news before after writes written (Err Write) =
+    (s : Listing) × (text : List ℕ) × (merged : List FrameValue) × AreListed w olds news s text merged
+    × (AppendsFront before after text ⊎ (IsDone news s merged × AppendsFront before after (text ++ last_text s))) × ShowsWriteFault writes written
+Prints w olds news before after writes written (Err NoMemory) =
+    (s : Listing) × (text : List ℕ) × (merged : List FrameValue) × AreListed w olds news s text merged × Appends before after text

@@ -12,7 +12,7 @@ use Rattle.nb_pcap.specs.File.{Spells}
 use Rattle.nb_pcap.specs.Frame.{FrameValue}
 use Rattle.nb_pcap.specs.Reading.{FileValue, Numbered, ReadsFrame, last_of, nothing_read}
 use Rattle.nb_pcap.specs.Steps.{Stops}
-use Rattle.nbt_look.specs.declared.printing.Ending.TheVariants.{Whole, Enough, Stopped}
+use Rattle.nbt_look.specs.declared.sources.Ending.TheVariants.{Whole, Stopped}
 use Rattle.nbt_look.specs.declared.sources.Waiting.{Waiting}
 use Rattle.nbt_look.specs.declared.sources.Waiting.TheVariants.{Unread, Frame, Ended}
 use Rattle.nbt_look.specs.Merging.{comes_first}
@@ -141,7 +141,6 @@ ReadAs Unread calls new got frames = IsOn new.file got frames
 ReadAs (Frame time) calls new got frames =
     (found : Numbered) × (last_of new.file ≡ Some found) × (time ≡ found.frame.time) × IsOn new.file got (frames ++ found.frame ∷ [])
 ReadAs (Ended Whole) calls new got frames = IsWholeFile got new.known frames
-ReadAs (Ended Enough) calls new got frames = ⊥
 ReadAs (Ended (Stopped fault n place)) calls new got frames = IsStoppedFile got new.known calls new.calls frames fault n place
 
 -- IsRead old new frames: what was read of a file: it gave these frames, and has given all but the one that it has to give

@@ -15,21 +15,15 @@ abbrev pub standing_of : FrameValue → PayloadValue → Standing
 standing_of f payload =
     cond (nat_lt (length payload.bytes) payload.wire_length) (cond (nat_lt (length f.bytes) f.original) Cut BadLength) Whole
 
--- so many bytes of so many
-abbrev pub of_bytes : ℕ → ℕ → List ℕ
-of_bytes some all = decimal some ++ (codes " of " ++ (decimal all ++ codes " bytes"))
+-- part_text what some all: so many bytes of so many
+abbrev pub part_text : List ℕ → ℕ → ℕ → List ℕ
+part_text what some all = what ++ (decimal some ++ (codes " of " ++ (decimal all ++ codes " bytes")))
 
--- what is said of a frame that the snap length cut before its payload: how many of its bytes are captured
-abbrev pub cut_frame_text : ℕ → ℕ → List ℕ
-cut_frame_text captured original = codes "left out: cut by the snap length, " ++ of_bytes captured original
-
--- what is said of a payload that the snap length cut: how many of its bytes are held
-abbrev pub cut_payload_text : ℕ → ℕ → List ℕ
-cut_payload_text held wire = codes "cut: " ++ of_bytes held wire
-
--- cut_text captured original held wire: the one where no byte of the payload is held, else the other
+-- cut_text captured original held wire: what is said of a payload that the snap length cut: how many of its bytes are held, or where none
+-- is how many of its frame are captured
 abbrev pub cut_text : ℕ → ℕ → ℕ → ℕ → List ℕ
-cut_text captured original held wire = cond (nat_eq held 0) (cut_frame_text captured original) (cut_payload_text held wire)
+cut_text captured original held wire =
+    cond (nat_eq held 0) (part_text (codes "left out: cut by the snap length, ") captured original) (part_text (codes "cut: ") held wire)
 
 -- the same of a payload in its frame
 abbrev pub cut_said : FrameValue → PayloadValue → List ℕ

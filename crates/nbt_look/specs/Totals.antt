@@ -8,7 +8,7 @@ use Rattle.nbt_look.specs.declared.listing.Listing.{Listing}
 use Rattle.nb_telling.specs.Telling.{Begins, Ends, Field, Number, Part, PartEnds, Text}
 use Rattle.nb_telling.specs.ObjectLines.{object_line}
 use Rattle.nbt_look.specs.declared.asked.Form.{Form}
-use Rattle.nbt_look.specs.declared.asked.Form.TheVariants.{Lines, Colours, Objects, ObjectsAlone}
+use Rattle.nbt_look.specs.declared.asked.Form.TheVariants.{Lines, Colours, Objects}
 use Rattle.nbt_look.specs.Counting.{count_of, has_none}
 use Rattle.nbt_look.specs.Bare.{bare_tag}
 use Rattle.nbt_look.specs.Wanted.{wants_all}
@@ -33,14 +33,9 @@ all_reasons =
     why.Cut ∷ why.Segment ∷ why.Fragment ∷ why.BadLength ∷ why.CutHeader ∷ why.BadHeader ∷ why.Ppp ∷ why.Mpls ∷ why.Llc
     ∷ why.Tags ∷ why.Link ∷ []
 
--- what stands before a reason, where another one stands before it or none
-abbrev pub lead_text : Bool → List ℕ
-lead_text true = codes ", "
-lead_text false = codes ": "
-
 -- reason_text begun count w: how many frames a reason left out, where others stand before it or none
 abbrev pub reason_text : Bool → ℕ → Why → List ℕ
-reason_text begun count w = lead_text begun ++ (decimal count ++ (codes " " ++ words_of w))
+reason_text begun count w = cond begun (codes ", ") (codes ": ") ++ (decimal count ++ (codes " " ++ words_of w))
 
 -- reasons_text c begun reasons: how many frames each of them left out, where it did
 abbrev pub reasons_text : Counts → Bool → List Why → List ℕ
@@ -63,10 +58,10 @@ packets_text c =
 abbrev pub left_out_text : Counts → List ℕ
 left_out_text c = decimal c.left_out ++ (codes " left out" ++ reasons_text c false all_reasons)
 
--- shown_text all shown: how many packets have a line, where not all are wanted
+-- shown_text all shown: the end of that line: how many packets have a line, where not all are wanted
 abbrev pub shown_text : Bool → ℕ → List ℕ
-shown_text true shown = []
-shown_text false shown = codes "; " ++ (decimal shown ++ codes " shown")
+shown_text true shown = codes "\n"
+shown_text false shown = codes "; " ++ (decimal shown ++ codes " shown\n")
 
 -- how many frames have no packet, where others have
 abbrev pub others_text : Counts → List ℕ
@@ -76,22 +71,16 @@ others_text c =
     ++ (codes " without a packet: " ++ (plural_text c.others (codes "frame") ++ codes " of other ports and protocols\n")))
     []
 
--- that there is none
-abbrev pub none_text : Counts → List ℕ
-none_text c = cond (has_none c) (codes "no frame has UDP of port 137 or 138, or TCP of port 139\n") []
-
--- the line that counts frames and packets
-abbrev pub totals_text : Listing → List ℕ
-totals_text l = packets_text l.counts ++ (left_out_text l.counts ++ (shown_text (wants_all l.asked.wanted) l.shown ++ codes "\n"))
-
--- without_text all c: what is said where frames have no packet and all packets are wanted, or none has one
+-- without_text all c: that no frame is of the ports; else how many have no packet, where all packets are wanted
 abbrev pub without_text : Bool → Counts → List ℕ
-without_text true c = others_text c ++ none_text c
-without_text false c = none_text c
+without_text all c =
+    cond (has_none c) (codes "no frame has UDP of port 137 or 138, or TCP of port 139\n") (cond all (others_text c) [])
 
 -- the last lines
 abbrev pub last_lines : Listing → List ℕ
-last_lines l = totals_text l ++ without_text (wants_all l.asked.wanted) l.counts
+last_lines l =
+    let all = wants_all l.asked.wanted in
+    packets_text l.counts ++ (left_out_text l.counts ++ (shown_text all l.shown ++ without_text all l.counts))
 
 -- ---- the same as an object
 
@@ -128,8 +117,7 @@ abbrev pub last_in : Form → Listing → List ℕ
 last_in Lines l = last_lines l
 last_in Colours l = last_lines l
 last_in Objects l = object_line (counts_fields l)
-last_in ObjectsAlone l = []
 
--- the same in the form that is asked for
+-- the same in the form that is asked for, where counts are
 abbrev pub last_text : Listing → List ℕ
-last_text l = last_in l.asked.form l
+last_text l = cond l.asked.has_counts (last_in l.asked.form l) []

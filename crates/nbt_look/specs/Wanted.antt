@@ -22,14 +22,18 @@ begins_as (V6 start) count (V6 address) = nat_eq (front_bits 128 count (ipv6_bit
 begins_as (V4 start) count (V6 address) = false
 begins_as (V6 start) count (V4 address) = false
 
+-- whether a list names nothing
+abbrev pub is_any : {A : Type 0} → List A → Bool
+is_any [] = true
+is_any (one ∷ others) = false
+
 -- whether an address is one of these
 abbrev pub is_of : List Prefix → IpAddr → Bool
 is_of prefixes address = list_any (λ prefix. begins_as prefix.start prefix.bits address) prefixes
 
 -- whether a packet comes from or goes to one of these hosts; any does where none is named
 abbrev pub is_between : List Prefix → Hosts → Bool
-is_between [] hosts = true
-is_between (prefix ∷ prefixes) hosts = is_of (prefix ∷ prefixes) hosts.source || is_of (prefix ∷ prefixes) hosts.destination
+is_between prefixes hosts = is_any prefixes || (is_of prefixes hosts.source || is_of prefixes hosts.destination)
 
 -- whether a port is one of these
 abbrev pub is_port : List ℕ → ℕ → Bool
@@ -37,18 +41,11 @@ is_port ports port = list_any (λ one. nat_eq one port) ports
 
 -- whether one of these ports is the sender's, the receiver's or that of the service; any does where none is named
 abbrev pub is_at : List ℕ → Ports → ℕ → Bool
-is_at [] ends service = true
-is_at (port ∷ ports) ends service =
-    is_port (port ∷ ports) ends.source || (is_port (port ∷ ports) ends.destination || is_port (port ∷ ports) service)
+is_at ports ends service = is_any ports || (is_port ports ends.source || (is_port ports ends.destination || is_port ports service))
 
 -- whether a packet of the service of this port is of the hosts and ports that are wanted
 abbrev pub wants : Filter → UdpDatagram → ℕ → Bool
 wants filter d service = is_between filter.hosts d.hosts && is_at filter.ports d.ports service
-
--- whether a list names nothing
-abbrev pub is_any : {A : Type 0} → List A → Bool
-is_any [] = true
-is_any (one ∷ others) = false
 
 -- whether every packet is wanted
 abbrev pub wants_all : Filter → Bool

@@ -3,7 +3,7 @@
 use crate::wanted::Filter;
 
 /// How the times of frames are shown.
-#[derive(Clone, Copy, Debug, PartialEq, Eq)]
+#[derive(Clone, Copy)]
 pub enum Times {
     /// Seconds since the first frame that has a time.
     Since,
@@ -12,16 +12,14 @@ pub enum Times {
 }
 
 /// How packets are shown.
-#[derive(Clone, Copy, Debug, PartialEq, Eq)]
+#[derive(Clone, Copy)]
 pub enum Form {
     /// As lines.
     Lines,
     /// As lines, some of which have colours.
     Colours,
-    /// As JSON objects, of which the last one has the counts.
+    /// As JSON objects.
     Objects,
-    /// As JSON objects, and no counts.
-    ObjectsAlone,
 }
 
 /// What is asked of the list.
@@ -33,4 +31,6 @@ pub struct Asked {
     pub times: Times,
     /// How packets are shown.
     pub form: Form,
+    /// Whether counts follow the list.
+    pub has_counts: bool,
 }

@@ -2,10 +2,9 @@
 ghost use Rattle.std.specs.Prelude.{◌≡◌, ◌++◌, ◌∷◌, IfSome};
 ghost use Rattle.std.specs.Net.Grammar.{IsIpText};
 ghost use Rattle.core.specs.Str.Parse.{digits_value, without_leading_plus};
-ghost use Rattle.nbt_look.specs.Asking.{MeansPrefix, objects_asked, slash, width_of};
+ghost use Rattle.nbt_look.specs.Asking.{MeansPrefix, form_of, objects_asked, slash, width_of};
 
 use crate::asked::{Asked, Form, Times};
-use crate::colours::asks_for_colours;
 use crate::kinds::{Kind, kind_of};
 use crate::wanted::{Filter, Prefix};
 use clap::ArgMatches;
@@ -14,19 +13,27 @@ use std::alloc::Global;
 use std::net::IpAddr;
 use std::str;
 
+/// Why a word of `--host` asks for nothing.
+const NO_HOST: &str = "no address: give one such as 10.0.0.5, or a network as 10.0.0.0/8";
+
+/// Why a word of `--kind` does.
+const NO_KIND: &str = "no kind: give query, status, registration, refresh, release, wack, \
+response, conflict, datagram, unique, group, broadcast, fragment, error, find, found, missing, \
+positive, negative, malformed or left-out";
+
+/// Why one does that names a kind of port 139 alone.
+const UNREAD_KIND: &str = "a kind of packets of port 139, which aren't read yet";
+
+/// Why a word of `--time` does.
+const NO_TIME: &str = "no way to show times: give start, or utc";
+
+/// Why a word of `--color` does.
+const NO_COLOUR: &str = "no way to choose colours: give auto, always, or never";
+
 /// Why the words of a command line ask for nothing.
-#[derive(Clone, Copy, Debug)]
 pub enum AskFault<'a> {
-    /// This is neither an address nor a prefix.
-    Host(&'a str),
-    /// This is no kind of packets.
-    Kind(&'a str),
-    /// This is a kind of packets that aren't read.
-    Unread(&'a str),
-    /// This is no way to show times.
-    Time(&'a str),
-    /// This is no way to choose colours.
-    Colour(&'a str),
+    /// This word does, for this reason.
+    Word(&'a str, &'static str),
     /// Memory ran out.
     NoMemory,
 }
@@ -41,12 +48,8 @@ impl From<NoMemory> for AskFault<'_> {
 ///
 /// # Errors
 ///
-/// - [`AskFault::Host`] for the first word of `--host` that is neither an address nor a prefix.
-/// - [`AskFault::Kind`] for the first word of `--kind` that is no kind, and
-///   [`AskFault::Unread`] for one that is a kind of port 139.
-/// - [`AskFault::Time`] where the word of `--time` is neither `start` nor `utc`.
-/// - [`AskFault::Colour`] where the word of `--color` is none of `auto`, `always` and `never`.
-/// - [`AskFault::NoMemory`] where memory ran out.
+/// [`AskFault::Word`] for the first word that is no address and no prefix, no kind that is read, or
+/// none of the words of its option, and [`AskFault::NoMemory`] where memory ran out.
 pub fn asked_of<'a>(
     alloc: Global,
     matches: &ArgMatches<'a>,
@@ -59,8 +62,15 @@ pub fn asked_of<'a>(
         kinds: kinds_of(alloc, matches.get_strs("kind").unwrap_or(&[]))?,
         most: matches.get_one("count"),
     };
-    let times = times_of(matches.get_str("time").unwrap_or("start"))?;
-    let form = form_of(matches.get_str("color").unwrap_or("auto"), is_plain)?;
+    let times = match matches.get_str("time").unwrap_or("start") {
+        "start" => Times::Since,
+        "utc" => Times::Utc,
+        word => return Err(AskFault::Word(word, NO_TIME)),
+    };
+    let word = matches.get_str("color").unwrap_or("auto");
+    let Some(form) = form_of(word, is_plain) else {
+        return Err(AskFault::Word(word, NO_COLOUR));
+    };
     if matches.get_flag("json") {
         return Ok(as_objects(wanted, matches.get_flag("quiet")));
     }
@@ -68,6 +78,7 @@ pub fn asked_of<'a>(
         wanted,
         times,
         form,
+        has_counts: true,
     })
 }
 
@@ -78,29 +89,21 @@ fn as_objects(wanted: Filter, is_quiet: bool) -> Asked
     Asked {
         wanted,
         times: Times::Utc,
-        form: if is_quiet {
-            Form::ObjectsAlone
-        } else {
-            Form::Objects
-        },
+        form: Form::Objects,
+        has_counts: !is_quiet,
     }
 }
 
-/// How packets are shown, by the word of `--color`.
-fn form_of(word: &str, is_plain: bool) -> Result<Form, AskFault<'_>> {
-    match asks_for_colours(word, is_plain) {
-        Some(true) => Ok(Form::Colours),
-        Some(false) => Ok(Form::Lines),
-        None => Err(AskFault::Colour(word)),
-    }
-}
-
-/// How a word says that times are shown.
-fn times_of(word: &str) -> Result<Times, AskFault<'_>> {
+/// How lines are shown where `--color` has this word, on an output that is plain, or one that isn't;
+/// none where it is no such word.
+fn form_of(word: &str, is_plain: bool) -> Option<Form>
+    ensures { result ≡ form_of word.now is_plain }
+{
     match word {
-        "start" => Ok(Times::Since),
-        "utc" => Ok(Times::Utc),
-        _ => Err(AskFault::Time(word)),
+        "auto" if is_plain => Some(Form::Lines),
+        "auto" | "always" => Some(Form::Colours),
+        "never" => Some(Form::Lines),
+        _ => None,
     }
 }
 
@@ -119,7 +122,7 @@ fn hosts_of<'a>(alloc: Global, words: &[&'a str]) -> Result<Items<Prefix>, AskFa
     for word in words {
         match prefix_of(word.as_bytes()) {
             Some(prefix) => hosts.push(prefix)?,
-            None => return Err(AskFault::Host(*word)),
+            None => return Err(AskFault::Word(*word, NO_HOST)),
         }
     }
     Ok(hosts)
@@ -150,19 +153,17 @@ fn add_kinds<'a>(words: &'a str, kinds: &mut Items<Kind>) -> Result<(), AskFault
     for word in words.split(',') {
         match kind_of(word) {
             Some(kind) => kinds.push(kind)?,
-            None if is_of_sessions(word) => return Err(AskFault::Unread(word)),
-            None => return Err(AskFault::Kind(word)),
+            None => {
+                return Err(match word {
+                    "session" | "request" | "retarget" | "message" | "keepalive" => {
+                        AskFault::Word(word, UNREAD_KIND)
+                    }
+                    _ => AskFault::Word(word, NO_KIND),
+                });
+            }
         }
     }
     Ok(())
-}
-
-/// Whether a word names a kind of port 139 alone, whose packets aren't read yet.
-fn is_of_sessions(word: &str) -> bool {
-    matches!(
-        word,
-        "session" | "request" | "retarget" | "message" | "keepalive"
-    )
 }
 
 /// The addresses that a word means: one, or after `/` how many of its first bits they have.

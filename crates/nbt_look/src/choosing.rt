@@ -1,10 +1,10 @@
 //! Which packets have a line.
 ghost use Rattle.std.specs.Prelude.{◌≡◌, IfOk};
-ghost use Rattle.nbt_look.specs.Choosing.{FitsInside, IsWanted, fits, is_named};
+ghost use Rattle.nbt_look.specs.Choosing.{FitsInside, IsWanted, fits};
 
 use crate::counting::Outcome;
 use crate::heading::heading_of;
-use crate::hearing::{Heard, hear};
+use crate::hearing::hear;
 use crate::kinds::Marks;
 use crate::wanted::Filter;
 use nb_frames::UdpDatagram;
@@ -51,16 +51,11 @@ fn fits_inside(
     Ok(fits(filter, marks))
 }
 
-/// Whether a packet of which this is known has a name that is wanted, and is of a kind that is.
+/// Whether a packet of which this is known has a name that is wanted, and is of a kind that is; any
+/// does, where none is.
 fn fits(filter: &Filter, marks: Marks) -> bool
     ensures { result ≡ fits filter.now marks }
 {
-    is_named(filter, marks.heard) && marks.is_of_kinds(filter.kinds.as_slice())
-}
-
-/// Whether a packet of which this was heard has a name that is wanted; any does, where none is.
-fn is_named(filter: &Filter, heard: Heard) -> bool
-    ensures { result ≡ is_named filter.now heard }
-{
-    filter.names.as_slice().is_empty() || heard.is_named
+    (filter.names.as_slice().is_empty() || marks.heard.is_named)
+        && marks.is_of_kinds(filter.kinds.as_slice())
 }

@@ -1,7 +1,7 @@
 //! The program's command line.
 ghost use Rattle.std.specs.Prelude.{◌≡◌, IfOk, codes, false};
 ghost use Rattle.clap.specs.Words.{app_of, new_app, rule_of};
-ghost use Rattle.nbt_look.specs.CommandLine.{colour_rule, count_rule, files_rule, host_rule, json_rule, kind_rule, look_app, name_rule, port_rule, quiet_rule, read_rule, repeated_rule, time_rule};
+ghost use Rattle.nbt_look.specs.CommandLine.{count_rule, files_rule, flag_rule, look_app, once_rule, port_rule, read_rule, repeated_rule};
 
 use clap::builder::ValueParser;
 use clap::{Arg, ArgAction, Command};
@@ -38,19 +38,35 @@ pub fn command<'a>(alloc: Global) -> Result<Command<'a>, AllocError>
     ensures { IfOk result (λ command. app_of command ≡ look_app) }
 {
     let top = described(alloc).version(VERSION);
-    let quiet = top.arg(quiet_flag(alloc))?;
-    let name = quiet.arg(name_option(alloc))?;
-    let host = name.arg(host_option(alloc))?;
+    let quiet = top.arg(flag(alloc, "quiet", QUIET))?;
+    let name = quiet.arg(repeated(alloc, "name", "TEXT", NAME))?;
+    let host = name.arg(repeated(alloc, "host", "ADDRESS", HOST))?;
     let port = host.arg(port_option(alloc))?;
-    let kind = port.arg(kind_option(alloc))?;
+    let kind = port.arg(repeated(alloc, "kind", "KIND,..", KIND))?;
     let count = kind.arg(count_option(alloc))?;
-    let time = count.arg(time_option(alloc))?;
-    let colour = time.arg(colour_option(alloc))?;
-    let json = colour.arg(json_flag(alloc))?;
+    let time = count.arg(once(alloc, "time", "WHEN", TIME))?;
+    let colour = time.arg(once(alloc, "color", "WHEN", COLOUR))?;
+    let json = colour.arg(flag(alloc, "json", JSON))?;
     let read = json.arg(read_option(alloc))?;
     let whole = read.arg(file_words(alloc))?;
     Ok(whole)
 }
+
+/// What the help says of each option.
+const QUIET: &str = "No progress, which the list has none of, and with --json no counts";
+
+const NAME: &str = "Packets with this name: FRED, or 'FRED<20>' of one kind; several may be given";
+
+const HOST: &str =
+    "Packets from or to this address, or this network as 10.0.0.0/8; several may be given";
+
+const KIND: &str = "Packets of these kinds, of those below";
+
+const TIME: &str = "Times: start, in seconds since the first frame, or utc";
+
+const COLOUR: &str = "Colours: auto, on a terminal unless NO_COLOR is set, always, or never";
+
+const JSON: &str = "A JSON object for each packet, and one with the counts; times are in UTC";
 
 /// The command with the texts before and after its help, and no argument.
 fn described<'a>(alloc: Global) -> Command<'a>
@@ -61,45 +77,38 @@ fn described<'a>(alloc: Global) -> Command<'a>
         .after_help(AFTER)
 }
 
-/// The flag `--quiet`.
-fn quiet_flag<'a>(alloc: Global) -> Arg<'a>
-    ensures rule { rule_of result ≡ quiet_rule }
+/// An option without a value.
+fn flag<'a>(alloc: Global, name: &'a str, help: &'a str) -> Arg<'a>
+    ensures rule { rule_of result ≡ flag_rule name.entry.now }
     ensures local { result.global ≡ false }
 {
-    Arg::new(alloc, "quiet")
-        .long("quiet")
-        .help("No progress, which the list has none of, and with --json no counts")
+    Arg::new(alloc, name)
+        .long(name)
+        .help(help)
         .action(ArgAction::SetTrue)
 }
 
-/// The option `--name TEXT`.
-fn name_option<'a>(alloc: Global) -> Arg<'a>
-    ensures rule { rule_of result ≡ name_rule }
+/// An option with a value, which may be given once.
+fn once<'a>(alloc: Global, name: &'a str, value: &'a str, help: &'a str) -> Arg<'a>
+    ensures rule { rule_of result ≡ once_rule name.entry.now }
     ensures local { result.global ≡ false }
 {
-    repeated(alloc, "name", "TEXT").help(
-        "Packets with this name: FRED, or 'FRED<20>' of one kind; several may be given",
-    )
-}
-
-/// The option `--host ADDRESS`.
-fn host_option<'a>(alloc: Global) -> Arg<'a>
-    ensures rule { rule_of result ≡ host_rule }
-    ensures local { result.global ≡ false }
-{
-    repeated(alloc, "host", "ADDRESS").help(
-        "Packets from or to this address, or this network as 10.0.0.0/8; several may be given",
-    )
+    Arg::new(alloc, name)
+        .long(name)
+        .value_name(value)
+        .help(help)
+        .action(ArgAction::Set)
 }
 
 /// An option with a value, which may be given several times.
-fn repeated<'a>(alloc: Global, name: &'a str, value: &'a str) -> Arg<'a>
+fn repeated<'a>(alloc: Global, name: &'a str, value: &'a str, help: &'a str) -> Arg<'a>
     ensures rule { rule_of result ≡ repeated_rule name.entry.now }
     ensures local { result.global ≡ false }
 {
     Arg::new(alloc, name)
         .long(name)
         .value_name(value)
+        .help(help)
         .action(ArgAction::Append)
 }
 
@@ -108,17 +117,13 @@ fn port_option<'a>(alloc: Global) -> Arg<'a>
     ensures rule { rule_of result ≡ port_rule }
     ensures local { result.global ≡ false }
 {
-    repeated(alloc, "port", "PORT")
-        .help("Packets from or to this port; several may be given")
-        .value_parser(ValueParser::unsigned(0, 65535))
-}
-
-/// The option `--kind KIND,..`.
-fn kind_option<'a>(alloc: Global) -> Arg<'a>
-    ensures rule { rule_of result ≡ kind_rule }
-    ensures local { result.global ≡ false }
-{
-    repeated(alloc, "kind", "KIND,..").help("Packets of these kinds, of those below")
+    repeated(
+        alloc,
+        "port",
+        "PORT",
+        "Packets from or to this port; several may be given",
+    )
+    .value_parser(ValueParser::unsigned(0, 65535))
 }
 
 /// The option `-c N`.
@@ -132,41 +137,6 @@ fn count_option<'a>(alloc: Global) -> Arg<'a>
         .help("The first N packets, after which nothing more is read")
         .value_parser(ValueParser::unsigned(1, u64::MAX))
         .action(ArgAction::Set)
-}
-
-/// The option `--time WHEN`.
-fn time_option<'a>(alloc: Global) -> Arg<'a>
-    ensures rule { rule_of result ≡ time_rule }
-    ensures local { result.global ≡ false }
-{
-    Arg::new(alloc, "time")
-        .long("time")
-        .value_name("WHEN")
-        .help("Times: start, in seconds since the first frame, or utc")
-        .action(ArgAction::Set)
-}
-
-/// The option `--color WHEN`.
-fn colour_option<'a>(alloc: Global) -> Arg<'a>
-    ensures rule { rule_of result ≡ colour_rule }
-    ensures local { result.global ≡ false }
-{
-    Arg::new(alloc, "color")
-        .long("color")
-        .value_name("WHEN")
-        .help("Colours: auto, on a terminal unless NO_COLOR is set, always, or never")
-        .action(ArgAction::Set)
-}
-
-/// The flag `--json`.
-fn json_flag<'a>(alloc: Global) -> Arg<'a>
-    ensures rule { rule_of result ≡ json_rule }
-    ensures local { result.global ≡ false }
-{
-    Arg::new(alloc, "json")
-        .long("json")
-        .help("A JSON object for each packet, and one with the counts; times are in UTC")
-        .action(ArgAction::SetTrue)
 }
 
 /// The option `-r FILE`.

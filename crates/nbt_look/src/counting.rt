@@ -1,12 +1,12 @@
 //! How many frames there are, and what they have.
-ghost use Rattle.std.specs.Prelude.{◌≡◌};
-ghost use Rattle.nbt_look.specs.Counting.{count_of, counted, has_none, more, no_counts, unread, with_outcome, with_reason};
+ghost use Rattle.std.specs.Prelude.{◌≡◌, ◌<◌};
+ghost use Rattle.nbt_look.specs.Counting.{count_of, counted, has_none, no_counts, place_of, unread};
 ghost use Rattle.nbt_look.specs.Totals.{words_of};
 
 use nb_frames::Reason;
 
 /// Why something of a frame is left out.
-#[derive(Clone, Copy, Debug, PartialEq, Eq)]
+#[derive(Clone, Copy)]
 pub enum LeftOut {
     /// The snap length cut its packet.
     Cut,
@@ -48,6 +48,14 @@ pub const ALL: [LeftOut; 11] = [
 ];
 
 impl LeftOut {
+    /// Its place among all reasons.
+    fn place(self) -> usize
+        ensures is { result ≡ place_of self }
+        ensures within { result < 11 }
+    {
+        self as usize
+    }
+
     /// The reason in words that go with any number.
     pub fn words(self) -> &'static str
         ensures { result.now ≡ words_of self }
@@ -69,7 +77,7 @@ impl LeftOut {
 }
 
 /// What a frame has, as it is counted.
-#[derive(Clone, Copy, Debug, PartialEq, Eq)]
+#[derive(Clone, Copy)]
 pub enum Outcome {
     /// A packet of port 137 or 138.
     Packet,
@@ -99,7 +107,7 @@ pub fn unread(reason: Reason) -> Outcome
 }
 
 /// How many frames there are of each sort. A count stays at the greatest number.
-#[derive(Clone, Copy, Debug, PartialEq, Eq)]
+#[derive(Drop)]
 pub struct Counts {
     /// All frames.
     pub frames: u64,
@@ -109,41 +117,10 @@ pub struct Counts {
     pub malformed: u64,
     /// Those of other ports and protocols.
     pub others: u64,
-    /// Those of which something is left out, each for one of the reasons that follow.
+    /// Those of which something is left out.
     pub left_out: u64,
-    /// [`LeftOut::Cut`].
-    pub cut: u64,
-    /// [`LeftOut::Segment`].
-    pub segments: u64,
-    /// [`LeftOut::Fragment`].
-    pub fragments: u64,
-    /// [`LeftOut::BadLength`].
-    pub bad_length: u64,
-    /// [`LeftOut::CutHeader`].
-    pub cut_headers: u64,
-    /// [`LeftOut::BadHeader`].
-    pub bad_headers: u64,
-    /// [`LeftOut::Ppp`].
-    pub ppp: u64,
-    /// [`LeftOut::Mpls`].
-    pub mpls: u64,
-    /// [`LeftOut::Llc`].
-    pub llc: u64,
-    /// [`LeftOut::Tags`].
-    pub tags: u64,
-    /// [`LeftOut::Link`].
-    pub links: u64,
-}
-
-/// One more, as far as 64 bits count.
-pub fn more(number: u64) -> u64
-    ensures { result ≡ more number }
-{
-    if number < u64::MAX {
-        number + 1
-    } else {
-        number
-    }
+    /// The same by reason, in the order of [`ALL`].
+    pub by_reason: [u64; 11],
 }
 
 impl Counts {
@@ -157,17 +134,7 @@ impl Counts {
             malformed: 0,
             others: 0,
             left_out: 0,
-            cut: 0,
-            segments: 0,
-            fragments: 0,
-            bad_length: 0,
-            cut_headers: 0,
-            bad_headers: 0,
-            ppp: 0,
-            mpls: 0,
-            llc: 0,
-            tags: 0,
-            links: 0,
+            by_reason: [0; 11],
         }
     }
 
@@ -175,63 +142,25 @@ impl Counts {
     pub fn of(&self, reason: LeftOut) -> u64
         ensures { result ≡ count_of reason self.now }
     {
-        match reason {
-            LeftOut::Cut => self.cut,
-            LeftOut::Segment => self.segments,
-            LeftOut::Fragment => self.fragments,
-            LeftOut::BadLength => self.bad_length,
-            LeftOut::CutHeader => self.cut_headers,
-            LeftOut::BadHeader => self.bad_headers,
-            LeftOut::Ppp => self.ppp,
-            LeftOut::Mpls => self.mpls,
-            LeftOut::Llc => self.llc,
-            LeftOut::Tags => self.tags,
-            LeftOut::Link => self.links,
-        }
+        self.by_reason[reason.place()]
     }
 
     /// Counts a frame.
     pub fn count(&mut self, outcome: Outcome)
         ensures { self.new ≡ counted outcome self.old }
     {
-        self.frames = more(self.frames);
-        self.add(outcome);
-    }
-
-    /// Counts what a frame has.
-    fn add(&mut self, outcome: Outcome)
-        ensures { self.new ≡ with_outcome outcome self.old }
-    {
+        self.frames = self.frames.saturating_add(1);
         match outcome {
-            Outcome::Packet => self.packets = more(self.packets),
+            Outcome::Packet => self.packets = self.packets.saturating_add(1),
             Outcome::Malformed => {
-                self.packets = more(self.packets);
-                self.malformed = more(self.malformed);
+                self.packets = self.packets.saturating_add(1);
+                self.malformed = self.malformed.saturating_add(1);
             }
             Outcome::LeftOut(reason) => {
-                self.left_out = more(self.left_out);
-                self.leave_out(reason);
+                self.left_out = self.left_out.saturating_add(1);
+                self.by_reason[reason.place()] = self.of(reason).saturating_add(1);
             }
-            Outcome::Other => self.others = more(self.others),
-        }
-    }
-
-    /// Counts why something is left out.
-    fn leave_out(&mut self, reason: LeftOut)
-        ensures { self.new ≡ with_reason reason self.old }
-    {
-        match reason {
-            LeftOut::Cut => self.cut = more(self.cut),
-            LeftOut::Segment => self.segments = more(self.segments),
-            LeftOut::Fragment => self.fragments = more(self.fragments),
-            LeftOut::BadLength => self.bad_length = more(self.bad_length),
-            LeftOut::CutHeader => self.cut_headers = more(self.cut_headers),
-            LeftOut::BadHeader => self.bad_headers = more(self.bad_headers),
-            LeftOut::Ppp => self.ppp = more(self.ppp),
-            LeftOut::Mpls => self.mpls = more(self.mpls),
-            LeftOut::Llc => self.llc = more(self.llc),
-            LeftOut::Tags => self.tags = more(self.tags),
-            LeftOut::Link => self.links = more(self.links),
+            Outcome::Other => self.others = self.others.saturating_add(1),
         }
     }
 
@@ -239,6 +168,9 @@ impl Counts {
     pub fn has_none(&self) -> bool
         ensures { result ≡ has_none self.now }
     {
-        self.packets == 0 && self.cut == 0 && self.bad_length == 0 && self.segments == 0
+        self.packets == 0
+            && self.of(LeftOut::Cut) == 0
+            && self.of(LeftOut::BadLength) == 0
+            && self.of(LeftOut::Segment) == 0
     }
 }

@@ -2,7 +2,7 @@
 ghost use Rattle.std.specs.Prelude.{◌≡◌, ◌++◌, ℕ, List, Some, OnOk, string_bytes, flat_map, option_map};
 ghost use Rattle.std.specs.Borrow.{Bor};
 ghost use Rattle.std.specs.Net.Text.{ip_text};
-ghost use Rattle.nbt_look.specs.Ends.{end_text, first_label, is_no_name, is_shown, label_of, mark_in, shown_byte, with_port};
+ghost use Rattle.nbt_look.specs.Ends.{end_text, first_label, is_no_name, label_of, mark_in, shown_byte};
 
 use nb_streams::{Bytes, NoMemory, push_address, push_decimal, push_digits, push_shown};
 use std::alloc::Global;
@@ -18,26 +18,8 @@ pub fn push_ip(address: IpAddr, text: &mut String) -> Result<(), NoMemory>
     }
 }
 
-/// Adds an address with its port.
-fn push_with_port(address: IpAddr, port: u16, text: &mut String) -> Result<(), NoMemory>
-    ensures { OnOk result
-        (string_bytes text.new ≡ string_bytes text.old ++ with_port address port) }
-{
-    match address {
-        IpAddr::V4(_) => {
-            push_ip(address, text)?;
-            text.push_str(":")?;
-        }
-        IpAddr::V6(_) => {
-            text.push_str("[")?;
-            push_ip(address, text)?;
-            text.push_str("]:")?;
-        }
-    }
-    push_decimal(u64::from(port), text)
-}
-
-/// Adds an end of a packet of the service of this port.
+/// Adds an end of a packet of the service of this port: an address, and its port where it isn't the
+/// service's own.
 pub fn push_end(address: IpAddr, port: u16, service: u16, text: &mut String) -> Result<(), NoMemory>
     ensures { OnOk result
         (string_bytes text.new ≡ string_bytes text.old ++ end_text address port service) }
@@ -45,29 +27,22 @@ pub fn push_end(address: IpAddr, port: u16, service: u16, text: &mut String) -> 
     if port == service {
         return push_ip(address, text);
     }
-    push_with_port(address, port, text)
-}
-
-/// Whether a byte of a name is printed as it stands.
-fn is_shown(byte: u8) -> bool
-    ensures { result ≡ is_shown byte }
-{
-    b' ' <= byte && byte <= b'~'
-}
-
-/// Adds a byte of a name.
-fn push_shown_byte(byte: u8, text: &mut String) -> Result<(), NoMemory>
-    ensures { OnOk result (string_bytes text.new ≡ string_bytes text.old ++ shown_byte byte) }
-{
-    if is_shown(byte) {
-        text.push(char::from(byte))?;
-        return Ok(());
+    match address {
+        IpAddr::V4(_) => {
+            push_ip(address, text)?;
+            text.push_str(":")?;
+            push_decimal(u64::from(port), text)
+        }
+        IpAddr::V6(_) => {
+            text.push_str("[")?;
+            push_ip(address, text)?;
+            text.push_str("]:")?;
+            push_decimal(u64::from(port), text)
+        }
     }
-    text.push_str("\\x")?;
-    push_digits(&[byte], text)
 }
 
-/// Adds the bytes of a name.
+/// Adds the bytes of a name: each as it stands where it shows, else by its digits.
 pub fn push_name(name: &[u8], text: &mut String) -> Result<(), NoMemory>
     ensures { OnOk result
         (string_bytes text.new ≡ string_bytes text.old ++ flat_map shown_byte name.now) }
@@ -76,6 +51,18 @@ pub fn push_name(name: &[u8], text: &mut String) -> Result<(), NoMemory>
         push_shown_byte(*byte, text)?;
     }
     Ok(())
+}
+
+/// Adds a byte of a name.
+fn push_shown_byte(byte: u8, text: &mut String) -> Result<(), NoMemory>
+    ensures { OnOk result (string_bytes text.new ≡ string_bytes text.old ++ shown_byte byte) }
+{
+    if b' ' <= byte && byte <= b'~' {
+        text.push(char::from(byte))?;
+        return Ok(());
+    }
+    text.push_str("\\x")?;
+    push_digits(&[byte], text)
 }
 
 /// Whether this is no name of an interface.
@@ -91,13 +78,8 @@ pub fn push_label(number: u64, name: Option<&[u8]>, text: &mut String) -> Result
         ++ label_of number (option_map (λ (n : Bor (List ℕ)). n.now) name.entry)) }
 {
     match name {
-        Some(name) => {
-            if is_no_name(name) {
-                return push_decimal(number, text);
-            }
-            push_name(name, text)
-        }
-        None => push_decimal(number, text),
+        Some(name) if !is_no_name(name) => push_name(name, text),
+        _ => push_decimal(number, text),
     }
 }
 

@@ -68,33 +68,23 @@ fn tell_interface<S: Sink>(
         (interface_field (option_map (λ (n : Bor (List ℕ)). n.now) name.entry))) }
 {
     match name {
-        Some(name) => {
-            if is_no_name(name) {
-                return sink.known(bare("interface"), None);
-            }
+        Some(name) if !is_no_name(name) => {
             scratch.clear();
             push_name(name, scratch)?;
             sink.text(bare("interface"), scratch.as_str())
         }
-        None => sink.known(bare("interface"), None),
+        _ => sink.known(bare("interface"), None),
     }
 }
 
-/// Adds a byte of a hardware address after another one: its digits after a colon.
-fn push_colon_byte(byte: u8, text: &mut String) -> Result<(), NoMemory>
-    ensures { OnOk result (string_bytes text.new ≡ string_bytes text.old ++ colon_byte byte) }
-{
-    text.push_str(":")?;
-    push_digits(&[byte], text)
-}
-
-/// Adds bytes of a hardware address after another one.
+/// Adds bytes of a hardware address after another one: the digits of each after a colon.
 fn push_colon_bytes(octets: &[u8], text: &mut String) -> Result<(), NoMemory>
     ensures { OnOk result
         (string_bytes text.new ≡ string_bytes text.old ++ flat_map colon_byte octets.now) }
 {
     for byte in octets {
-        push_colon_byte(*byte, text)?;
+        text.push_str(":")?;
+        push_digits(&[*byte], text)?;
     }
     Ok(())
 }
@@ -125,22 +115,15 @@ fn tell_mac<S: Sink>(
     sink.text(bare(name), scratch.as_str())
 }
 
-/// Tells the identifier of a VLAN, as a part of a list.
-fn tell_vlan<S: Sink>(id: u16, sink: &mut S) -> Result<(), NoMemory>
-    ensures { OnOk result (S.seen sink.new ≡ fold S.after (S.seen sink.old) (vlan_fields id)) }
-{
-    sink.part("")?;
-    sink.number(bare("id"), u64::from(id))?;
-    sink.part_ends()
-}
-
 /// Tells the identifiers of VLANs, each as a part of a list.
 fn tell_each_vlan<S: Sink>(ids: &[u16], sink: &mut S) -> Result<(), NoMemory>
     ensures { OnOk result
         (S.seen sink.new ≡ fold S.after (S.seen sink.old) (flat_map vlan_fields ids.now)) }
 {
     for id in ids {
-        tell_vlan(*id, sink)?;
+        sink.part("")?;
+        sink.number(bare("id"), u64::from(*id))?;
+        sink.part_ends()?;
     }
     Ok(())
 }

@@ -6,7 +6,7 @@ use nb_datagram::{Front, read_front};
 use nb_service::read_header;
 
 /// What the header of a packet says of its kinds.
-#[derive(Clone, Copy, Debug, PartialEq, Eq)]
+#[derive(Clone, Copy)]
 pub enum Heading {
     /// Of port 137: the flag word (RFC 1002 section 4.2.1.1).
     Names(u16),
@@ -21,32 +21,18 @@ pub fn heading_of(port: u16, payload: &[u8]) -> Heading
     ensures { IsHeading payload.now port result }
 {
     if port == 137 {
-        return names_heading(payload);
+        return match read_header(payload) {
+            Ok(header) => Heading::Names(header.word),
+            Err(_) => Heading::Nothing,
+        };
     }
     if port == 138 {
-        return datagram_heading(payload);
+        return match read_front(payload) {
+            Some(front) => Heading::Datagram(front.message_type, is_piece(&front)),
+            None => Heading::Nothing,
+        };
     }
     Heading::Nothing
-}
-
-/// The same of port 137.
-fn names_heading(payload: &[u8]) -> Heading
-    ensures { IsHeading payload.now 137 result }
-{
-    match read_header(payload) {
-        Ok(header) => Heading::Names(header.word),
-        Err(_) => Heading::Nothing,
-    }
-}
-
-/// The same of port 138.
-fn datagram_heading(payload: &[u8]) -> Heading
-    ensures { IsHeading payload.now 138 result }
-{
-    match read_front(payload) {
-        Some(front) => Heading::Datagram(front.message_type, is_piece(&front)),
-        None => Heading::Nothing,
-    }
 }
 
 /// Whether a packet of port 138 that begins so has a piece of a datagram.

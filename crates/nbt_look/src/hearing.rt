@@ -3,9 +3,9 @@
 ghost use Rattle.std.specs.Prelude.{◌≡◌, IfOk};
 ghost use Rattle.std.specs.List.{list_any};
 ghost use Rattle.nb_telling.specs.Texts.{names_of};
-ghost use Rattle.nbt_look.specs.Hearing.{IsHeard, has_conflict, is_in_conflict, is_status_type, sets_conflict};
+ghost use Rattle.nbt_look.specs.Hearing.{IsHeard, has_conflict, sets_conflict};
+ghost use Rattle.nbt_look.specs.Naming.{is_of_names, is_wanted_name, means};
 
-use crate::naming::is_wanted_name;
 use nb_streams::{Bytes, NoMemory, push_shown};
 use nb_telling::{FieldTag, Flag, Shows, Sink};
 use nb_text::tell_front;
@@ -14,7 +14,7 @@ use std::fmt::Display;
 use std::marker::Model;
 
 /// What was heard of the fields of a packet that were told.
-#[derive(Clone, Copy, Debug, PartialEq, Eq)]
+#[derive(Clone, Copy)]
 pub struct Heard {
     /// Whether there is a name that is wanted.
     pub is_named: bool,
@@ -79,7 +79,9 @@ impl<'a> Sink for HearingSink<'a> {
     }
 
     fn digits(&mut self, tag: FieldTag, value: &[u8]) -> Result<(), NoMemory> {
-        self.heard.status = is_status_type(tag.name, value) || self.heard.status;
+        // NBSTAT, the type of a node's status (RFC 1002 section 4.2.1.3).
+        let is_status = tag.name == "type" && value == b"\x00\x21".as_slice();
+        self.heard.status = is_status || self.heard.status;
         Ok(())
     }
 
@@ -88,7 +90,8 @@ impl<'a> Sink for HearingSink<'a> {
     }
 
     fn set(&mut self, tag: FieldTag, flags: &[Flag]) -> Result<(), NoMemory> {
-        self.heard.conflict = is_in_conflict(tag.name, flags) || self.heard.conflict;
+        let is_conflict = tag.name == "set" && has_conflict(flags);
+        self.heard.conflict = is_conflict || self.heard.conflict;
         Ok(())
     }
 
@@ -129,23 +132,7 @@ impl<'a> Sink for HearingSink<'a> {
     }
 }
 
-/// Whether digits of a field with this tag are the type of a node's status (RFC 1002 section
-/// 4.2.1.3).
-fn is_status_type(tag: &str, digits: &[u8]) -> bool
-    ensures { result ≡ is_status_type tag.now digits.now }
-{
-    tag == "type" && digits == b"\x00\x21".as_slice()
-}
-
-/// Whether flags of a field with this tag say that a node's name is in conflict (section
-/// 4.2.18).
-fn is_in_conflict(tag: &str, flags: &[Flag]) -> bool
-    ensures { result ≡ is_in_conflict tag.now (names_of flags.now) }
-{
-    tag == "set" && has_conflict(flags)
-}
-
-/// Whether the flag of a name in conflict is set.
+/// Whether the flag of a name in conflict is set (RFC 1002 section 4.2.18).
 fn has_conflict(flags: &[Flag]) -> bool
     ensures { result ≡ has_conflict (names_of flags.now) }
 {
@@ -157,6 +144,41 @@ fn sets_conflict(flags: &[Flag]) -> bool
     ensures { result ≡ list_any sets_conflict flags.now }
 {
     flags.iter().any(|flag| flag.is_set && flag.name == "CNF")
+}
+
+/// Whether a name of a field with this tag is wanted: one of these, where the tag is one of names.
+fn is_wanted_name(wanted: &[Bytes], tag: &str, name: &[u8]) -> bool
+    ensures { result ≡ is_wanted_name wanted.now tag.now name.now }
+{
+    is_of_names(tag) && is_among(wanted, name)
+}
+
+/// Whether one of these is meant by a name.
+fn is_among(wanted: &[Bytes], name: &[u8]) -> bool
+    ensures { result ≡ list_any (λ one. means one name.now) wanted.now }
+{
+    wanted.iter().any(|one| means(one.as_slice(), name))
+}
+
+/// Whether fields with this tag have names.
+fn is_of_names(tag: &str) -> bool
+    ensures { result ≡ is_of_names tag.now }
+{
+    matches!(
+        tag,
+        "name" | "source" | "destination" | "called" | "calling"
+    )
+}
+
+/// Whether a wanted name is this one, or what stands in it before a `<`, whatever the case of their
+/// letters.
+fn means(wanted: &[u8], name: &[u8]) -> bool
+    ensures { result ≡ means wanted.now name.now }
+{
+    wanted.eq_ignore_ascii_case(name)
+        || (wanted.len() < name.len()
+            && name[wanted.len()] == b'<'
+            && wanted.eq_ignore_ascii_case(&name[..wanted.len()]))
 }
 
 /// What is heard of a payload that came to a port, as far as it still stands, where these names are

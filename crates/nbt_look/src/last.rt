@@ -3,7 +3,7 @@
 
 ghost use Rattle.std.specs.Prelude.{◌≡◌, IfOk, OnOk, fold};
 ghost use Rattle.nb_telling.specs.ObjectLines.{IsObject};
-ghost use Rattle.nbt_look.specs.Totals.{counts_fields, last_lines, last_text, left_out_fields, packets_fields, reason_fields, reasons_fields, rest_fields};
+ghost use Rattle.nbt_look.specs.Totals.{counts_fields, last_text, left_out_fields, packets_fields, reason_fields, reasons_fields, rest_fields};
 
 use crate::asked::Form;
 use crate::counting::{ALL, Counts, LeftOut};
@@ -89,25 +89,22 @@ fn counts_object(listing: &Listing, room: JsonRoom) -> Result<JsonRoom, NoMemory
     Ok(made)
 }
 
-/// The last lines.
-fn lines_of(alloc: Global, listing: &Listing) -> Result<Bytes, NoMemory>
-    ensures { IfOk result (λ last. last ≡ last_lines listing.now) }
-{
-    let mut text = String::new(alloc);
-    push_last(listing, &mut text)?;
-    Bytes::copy(alloc, text.as_bytes())
-}
-
 /// What stands after the list, in the form that is asked for.
 pub fn last_of(alloc: Global, listing: &Listing) -> Result<Bytes, NoMemory>
     ensures { IfOk result (λ last. last ≡ last_text listing.now) }
 {
+    if !listing.asked.has_counts {
+        return Bytes::copy(alloc, &[]);
+    }
     match listing.asked.form {
-        Form::Lines | Form::Colours => lines_of(alloc, listing),
+        Form::Lines | Form::Colours => {
+            let mut text = String::new(alloc);
+            push_last(listing, &mut text)?;
+            Bytes::copy(alloc, text.as_bytes())
+        }
         Form::Objects => {
             let made = counts_object(listing, JsonRoom::new(alloc))?;
             Bytes::copy(alloc, made.as_slice())
         }
-        Form::ObjectsAlone => Bytes::copy(alloc, &[]),
     }
 }

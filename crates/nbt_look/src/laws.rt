@@ -1,14 +1,17 @@
 //! Laws of the definitions that the contracts cite. Each is proved; a call does nothing.
-ghost use Rattle.std.specs.Prelude.{◌≡◌, ◌++◌, [], ℕ, List, Some, None, true, false, length};
+ghost use Rattle.std.specs.Prelude.{◌≡◌, ◌≢◌, ◌++◌, [], ℕ, List, Some, None, true, false, length};
 ghost use Rattle.nb_pcap.specs.Frame.{FrameValue};
 ghost use Rattle.nbt_look.specs.Merging.{IsAscending, Merges, comes_first, of_place};
 
-/// In a merge stand the frames of each file in their order, each once, and no others; where the
-/// times of no file decrease, nor do those of the merge.
+/// In a merge stand the frames of each file in their order, each once, and no others, so of one file
+/// all its frames; where the times of no file decrease, nor do those of the merge.
 pub fn merges()
     ensures each { (files left : ℕ → List FrameValue) (frames : List FrameValue)
         → Merges files frames left → (places : List ℕ) × (length places ≡ length frames)
         × ((i : ℕ) → files i ≡ of_place places frames i ++ left i) }
+    ensures alone { (files left : ℕ → List FrameValue) (frames : List FrameValue)
+        → ((i : ℕ) → i ≢ 0 → files i ≡ []) → Merges files frames left
+        → files 0 ≡ frames ++ left 0 }
     ensures ascending { (files left : ℕ → List FrameValue) (frames : List FrameValue)
         → ((i : ℕ) → IsAscending (files i)) → Merges files frames left → IsAscending frames }
 {}

@@ -3,15 +3,14 @@ ghost use Rattle.std.specs.Prelude.{◌≡◌, ◌++◌, [], ℕ, List, OnOk, st
 ghost use Rattle.nb_pcap.specs.Frame.{value_of};
 ghost use Rattle.nbt_look.specs.Objects.{IsPacketObject};
 ghost use Rattle.nbt_look.specs.Times.{IsTime};
-ghost use Rattle.nbt_look.specs.Listing.{HasLine, Lists, ListsCarried, ListsDatagram, Shows, cells_of, label_in, listed, nothing_listed, segment_outcome, text_in};
+ghost use Rattle.nbt_look.specs.Listing.{HasLine, Lists, ListsCarried, ListsDatagram, Shows, nothing_listed, text_in};
 
 use crate::asked::{Asked, Form};
-use crate::cells::{set_cells, set_label};
 use crate::choosing::is_wanted;
-use crate::colours::push_coloured;
-use crate::counting::{LeftOut, Outcome, more, unread};
-use crate::ends::keep_first;
-use crate::listing::Listing;
+use crate::colours::colour_of_packet;
+use crate::counting::{LeftOut, Outcome, unread};
+use crate::ends::push_label;
+use crate::listing::{Listing, set_cells};
 use crate::objects::{Shown, packet_object};
 use crate::standing::{outcome_in, push_said, standing_of};
 use crate::widths::{Cells, push_line};
@@ -37,16 +36,6 @@ pub struct Lister {
     room: JsonRoom,
 }
 
-/// How a segment of TCP counts, by the port of its service.
-fn segment_outcome(service: Option<u16>) -> Outcome
-    ensures { result ≡ segment_outcome service }
-{
-    match service {
-        Some(_) => Outcome::LeftOut(LeftOut::Segment),
-        None => Outcome::Other,
-    }
-}
-
 impl Lister {
     /// Before the first frame, where this is asked. No memory is taken.
     pub fn new(alloc: Global, asked: Asked) -> Lister
@@ -55,7 +44,12 @@ impl Lister {
         Lister {
             alloc,
             listing: Listing::new(asked),
-            cells: Cells::new(alloc),
+            cells: Cells {
+                number: String::new(alloc),
+                time: String::new(alloc),
+                source: String::new(alloc),
+                target: String::new(alloc),
+            },
             label: String::new(alloc),
             phrase: String::new(alloc),
             text: String::new(alloc),
@@ -69,7 +63,7 @@ impl Lister {
     {
         match self.listing.asked.form {
             Form::Lines | Form::Colours => self.text.as_bytes(),
-            Form::Objects | Form::ObjectsAlone => self.room.as_slice(),
+            Form::Objects => self.room.as_slice(),
         }
     }
 
@@ -80,7 +74,7 @@ impl Lister {
     {
         match self.listing.asked.form {
             Form::Lines | Form::Colours => self.text.clear(),
-            Form::Objects | Form::ObjectsAlone => {
+            Form::Objects => {
                 self.room = mem::replace(&mut self.room, JsonRoom::new(self.alloc)).cleared();
             }
         }
@@ -92,7 +86,7 @@ impl Lister {
             self.old.listing self.new.listing (text_in self.new)) }
     {
         self.clear();
-        self.listing.see(frame.time);
+        self.listing.first = self.listing.first.or(frame.time);
         let contents = contents_of(frame.link, frame.bytes);
         self.make_carried(frame, &contents.carried)
     }
@@ -108,11 +102,14 @@ impl Lister {
                 Some(port) => return self.make_datagram(frame, datagram, port),
                 None => Outcome::Other,
             },
-            Carried::Tcp(_) => segment_outcome(carried.service_port()),
+            Carried::Tcp(_) => match carried.service_port() {
+                Some(_) => Outcome::LeftOut(LeftOut::Segment),
+                None => Outcome::Other,
+            },
             Carried::Fragment(_) => Outcome::LeftOut(LeftOut::Fragment),
             Carried::Other(reason) => unread(*reason),
         };
-        self.listing.pass(outcome);
+        self.listing.counts.count(outcome);
         Ok(())
     }
 
@@ -141,7 +138,7 @@ impl Lister {
         )? {
             return self.make_line(frame, datagram, port, outcome);
         }
-        self.listing.pass(outcome);
+        self.listing.counts.count(outcome);
         Ok(())
     }
 
@@ -160,7 +157,8 @@ impl Lister {
             × HasLine self.old.listing at frame.now.number (value_of frame.now) datagram.now port
             outcome (string_bytes self.old.phrase) self.new.listing (text_in self.new)) }
     {
-        set_label(frame, &mut self.label)?;
+        self.label.clear();
+        push_label(frame.interface, frame.name, &mut self.label)?;
         set_cells(
             &self.listing,
             frame,
@@ -169,13 +167,8 @@ impl Lister {
             port,
             &mut self.cells,
         )?;
-        list_cells(
-            self.alloc,
-            &mut self.listing,
-            self.label.as_str(),
-            &self.cells,
-            outcome,
-        )?;
+        self.listing
+            .list(self.alloc, self.label.as_str(), &self.cells, outcome)?;
         self.show(frame, datagram, port, outcome)
     }
 
@@ -196,20 +189,12 @@ impl Lister {
     {
         let (widths, phrase) = (self.listing.widths, self.phrase.as_str());
         match self.listing.asked.form {
-            Form::Lines => push_line(widths, &self.cells, phrase, &mut self.text),
+            Form::Lines => push_line("", widths, &self.cells, phrase, &mut self.text),
             Form::Colours => {
-                let payload = datagram.payload.bytes();
-                push_coloured(
-                    outcome,
-                    port,
-                    payload,
-                    widths,
-                    &self.cells,
-                    phrase,
-                    &mut self.text,
-                )
+                let colour = colour_of_packet(outcome, port, datagram.payload.bytes());
+                push_line(colour, widths, &self.cells, phrase, &mut self.text)
             }
-            Form::Objects | Form::ObjectsAlone => self.make_object(frame, datagram, port),
+            Form::Objects => self.make_object(frame, datagram, port),
         }
     }
 
@@ -234,21 +219,4 @@ impl Lister {
         self.room = packet_object(frame, datagram, port, &shown, &mut self.label, room)?;
         Ok(())
     }
-}
-
-/// Takes a line of this interface with these cells, of a frame that counts so.
-fn list_cells(
-    alloc: Global,
-    listing: &mut Listing,
-    label: &str,
-    cells: &Cells,
-    outcome: Outcome,
-) -> Result<(), NoMemory>
-    ensures { OnOk result (listing.new ≡ listed listing.old label.now cells.now outcome) }
-{
-    keep_first(alloc, &mut listing.interface, label)?;
-    listing.widths = listing.widths.widened(cells);
-    listing.counts.count(outcome);
-    listing.shown = more(listing.shown);
-    Ok(())
 }

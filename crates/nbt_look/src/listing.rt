@@ -1,13 +1,17 @@
 //! What the lines of the list leave to those that follow.
-ghost use Rattle.std.specs.Prelude.{◌≡◌};
-ghost use Rattle.nbt_look.specs.Listing.{nothing_listed, passed, seen};
-ghost use Rattle.nbt_look.specs.Wanted.{is_enough};
+ghost use Rattle.std.specs.Prelude.{◌≡◌, ℕ, List, OnOk};
+ghost use Rattle.nbt_look.specs.Listing.{cells_of, listed, nothing_listed};
+ghost use Rattle.nbt_look.specs.Times.{IsTime};
 
 use crate::asked::Asked;
 use crate::counting::{Counts, Outcome};
-use crate::times::first_after;
-use crate::widths::Widths;
-use nb_streams::Bytes;
+use crate::ends::{keep_first, push_end, push_mark};
+use crate::times::push_time;
+use crate::widths::{Cells, Widths};
+use nb_frames::UdpDatagram;
+use nb_pcap::Frame;
+use nb_streams::{Bytes, NoMemory, push_decimal};
+use std::alloc::Global;
 
 /// What the lines of the list leave to those that follow.
 #[derive(Drop)]
@@ -35,30 +39,66 @@ impl Listing {
             asked,
             first: None,
             interface: None,
-            widths: Widths::first(),
+            widths: Widths {
+                number: 5,
+                time: 9,
+                source: 15,
+                target: 15,
+            },
             counts: Counts::new(),
             shown: 0,
         }
     }
 
-    /// Takes the time of a frame.
-    pub fn see(&mut self, time: Option<u64>)
-        ensures { self.new ≡ seen self.old time }
+    /// Takes a line of this interface with these cells, of a frame that counts so.
+    pub fn list(
+        &mut self,
+        alloc: Global,
+        label: &str,
+        cells: &Cells,
+        outcome: Outcome,
+    ) -> Result<(), NoMemory>
+        ensures { OnOk result (self.new ≡ listed self.old label.now cells.now outcome) }
     {
-        self.first = first_after(self.first, time);
-    }
-
-    /// Takes a frame without a line.
-    pub fn pass(&mut self, outcome: Outcome)
-        ensures { self.new ≡ passed self.old outcome }
-    {
+        keep_first(alloc, &mut self.interface, label)?;
+        self.widths = self.widths.widened(cells);
         self.counts.count(outcome);
+        self.shown = self.shown.saturating_add(1);
+        Ok(())
     }
+}
 
-    /// Whether there are as many lines as are wanted.
-    pub fn is_enough(&self) -> bool
-        ensures { result ≡ is_enough self.now.asked.wanted self.now.shown }
-    {
-        self.asked.wanted.is_enough(self.shown)
-    }
+/// Makes the cells those of a frame that has this datagram of the service of this port.
+pub fn set_cells(
+    listing: &Listing,
+    frame: &Frame<'_>,
+    label: &str,
+    datagram: &UdpDatagram<'_>,
+    port: u16,
+    cells: &mut Cells,
+) -> Result<(), NoMemory>
+    ensures { OnOk result ((at : List ℕ)
+        × IsTime listing.now.asked.times listing.now.first frame.now.time at
+        × (cells.new ≡ cells_of listing.now frame.now.number at label.now datagram.now port)) }
+{
+    let (hosts, ports) = (datagram.hosts, datagram.ports);
+    cells.number.clear();
+    push_decimal(frame.number, &mut cells.number)?;
+    cells.time.clear();
+    push_time(
+        listing.asked.times,
+        listing.first,
+        frame.time,
+        &mut cells.time,
+    )?;
+    cells.source.clear();
+    push_end(hosts.source, ports.source, port, &mut cells.source)?;
+    push_mark(&listing.interface, label, &mut cells.source)?;
+    cells.target.clear();
+    push_end(
+        hosts.destination,
+        ports.destination,
+        port,
+        &mut cells.target,
+    )
 }

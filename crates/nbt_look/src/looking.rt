@@ -1,127 +1,76 @@
 //! Showing the files that are asked for.
 ghost use Rattle.std.specs.Prelude.{IfOk};
-ghost use Rattle.nbt_look.specs.Several.{AreUnread};
+ghost use Rattle.nbt_look.specs.Printing.{AreUnread};
 
 use crate::asked::Asked;
-use crate::messages::{fail, fail_at, misuse};
-use crate::output::{FlushingInput, SharedOutput};
+use crate::messages::{BAD_USAGE, FAILED, fail, refuse};
+use crate::output::{LiveInput, Output, SharedOutput};
 use crate::program::run;
-use crate::running::run_several;
-use crate::signature::{Signature, SignatureInput, UNREAD};
-use crate::sources::{Source, add_source};
+use crate::signature::{Signature, UNREAD};
+use crate::sources::Source;
 use nb_streams::Counted;
 use std::alloc::{AllocError, Global};
 use std::cell::{Cell, RefCell};
 use std::fs::{File, metadata};
 use std::io;
-use std::io::{BufWriter, Read, Write};
+use std::io::{BufWriter, ErrorKind, Read, Stdin, Write};
 
-/// Shows these files, and answers the exit status.
-pub fn look_at_all(rt: &HostRuntime, titles: &[&str], asked: Asked) -> u8 {
-    match titles {
-        [] => misuse(
-            rt,
-            "FILE",
-            "none is given: give one, or - for standard input",
-        ),
-        [title] => look_at(rt, title, asked),
-        _ => look_at_several(rt, titles, asked),
-    }
+/// What messages call standard input.
+const STANDARD_INPUT: [&str; 1] = ["standard input"];
+
+/// An input that is read.
+#[derive(Drop)]
+pub enum Input {
+    /// A file.
+    File(File),
+    /// Standard input.
+    Standard(Stdin),
 }
 
-/// Shows the file of this name, or standard input by `-`, and answers the exit status.
-fn look_at(rt: &HostRuntime, title: &str, asked: Asked) -> u8 {
-    if title == "-" {
-        return look(rt, "standard input", asked, rt.stdin());
-    }
-    match opened(rt, title) {
-        Ok(file) => look(rt, title, asked, file),
-        Err(code) => code,
-    }
-}
-
-/// Opens a file; where it can't be opened, says why, and answers the exit status.
-fn opened(rt: &HostRuntime, title: &str) -> Result<File, u8> {
-    if let Ok(found) = metadata(rt, title) {
-        if found.is_dir() {
-            return Err(fail_at(rt, title, "it is a directory: give a file of it"));
+impl Read for Input {
+    fn read(&mut self, buf: &mut [u8]) -> io::Result<usize> {
+        match self {
+            Input::File(file) => file.read(buf),
+            Input::Standard(stdin) => stdin.read(buf),
         }
     }
-    match File::open(rt, title) {
-        Ok(file) => Ok(file),
-        Err(error) => Err(unopened(rt, title, &error)),
-    }
 }
 
-/// Says that a file can't be opened.
-fn unopened(rt: &HostRuntime, title: &str, error: &io::Error) -> u8 {
-    match error.kind() {
-        io::ErrorKind::NotFound => fail_at(rt, title, "there is no file of this name"),
-        io::ErrorKind::PermissionDenied => fail_at(
-            rt,
-            title,
-            "you may not read it: ask its owner, or use sudo",
-        ),
-        _ => fail_at(rt, title, "it can't be opened"),
+/// Shows these files, or standard input by `-` alone, and answers the exit status. Where one can't
+/// be opened, none is read. What is printed is written out before each read.
+pub fn look_at_all(rt: &HostRuntime, titles: &[&str], asked: Asked) -> u8 {
+    if titles.is_empty() {
+        let why = "none is given: give one, or - for standard input";
+        return refuse(rt, "FILE", why, BAD_USAGE);
     }
-}
-
-/// Shows an input, before each read of which what was printed is written out, and answers the exit
-/// status.
-fn look<R: Read + Drop>(rt: &HostRuntime, title: &str, asked: Asked, input: R) -> u8 {
+    let Ok(signatures) = unread_signatures(rt.alloc(), titles.len()) else {
+        return fail(rt, "memory ran out");
+    };
     let Ok(stdout) = BufWriter::new(rt.alloc(), rt.stdout()) else {
         return fail(rt, "memory ran out");
     };
     let Ok(mut errors) = BufWriter::new(rt.alloc(), rt.stderr()) else {
         return fail(rt, "memory ran out");
     };
-    let printed = RefCell::new(stdout);
-    let code = run_flushing(rt.alloc(), title, asked, input, &printed, &mut errors);
-    finish(rt, code, printed.into_inner(), errors)
-}
-
-/// Runs the program over this input, before each read of which the output in the cell is flushed.
-/// None where such a flush failed.
-fn run_flushing<R: Read + Drop, W: Write, E: Write>(
-    alloc: Global,
-    title: &str,
-    asked: Asked,
-    input: R,
-    printed: &RefCell<W>,
-    errors: &mut E,
-) -> Option<u8> {
-    let signature = Cell::new(UNREAD);
-    let noted = SignatureInput::new(input, &signature);
-    let mut reader = Counted::new(FlushingInput::new(noted, printed));
-    let mut writer = Counted::new(SharedOutput::new(printed));
-    let mut teller = Counted::new(errors);
-    let code = run(
-        alloc,
-        title,
-        asked,
-        &signature,
-        &mut reader,
-        &mut writer,
-        &mut teller,
-    );
-    let _writer = writer.into_inner();
-    let _errors = teller.into_inner();
-    if reader.into_inner().flush_failed {
-        return None;
-    }
-    Some(code)
-}
-
-/// Shows several files as one capture, and answers the exit status. Where one can't be opened, none
-/// is read.
-fn look_at_several(rt: &HostRuntime, titles: &[&str], asked: Asked) -> u8 {
-    let Ok(signatures) = unread_signatures(rt.alloc(), titles.len()) else {
-        return fail(rt, "memory ran out");
+    let printed = RefCell::new(Output::new(stdout));
+    let shown_titles = if titles[..] == ["-"] {
+        STANDARD_INPUT.as_slice()
+    } else {
+        titles
     };
-    match sources_of(rt, titles, signatures.as_slice()) {
-        Ok(sources) => look_side_by_side(rt, titles, asked, signatures.as_slice(), sources),
+    let code = match sources_of(rt, titles, signatures.as_slice(), &printed) {
+        Ok(sources) => show(
+            rt.alloc(),
+            shown_titles,
+            asked,
+            signatures.as_slice(),
+            sources,
+            &printed,
+            &mut errors,
+        ),
         Err(code) => code,
-    }
+    };
+    finish(rt, code, printed.into_inner(), errors)
 }
 
 /// The signatures of so many inputs of which nothing was read.
@@ -133,55 +82,71 @@ fn unread_signatures(alloc: Global, count: usize) -> Result<Vec<Cell<Signature>>
     Ok(signatures)
 }
 
-/// Opens these files, whose signatures these cells keep; where one can't be opened, says why, and
-/// answers the exit status.
-fn sources_of<'a>(
+/// Opens these files, whose signatures these cells keep, and before whose reads the output in a cell
+/// is flushed; where one can't be opened, says why, and answers the exit status.
+fn sources_of<'a, W: Write>(
     rt: &HostRuntime,
     titles: &[&str],
     signatures: &'a [Cell<Signature>],
-) -> Result<Vec<Source<SignatureInput<'a, File>>>, u8>
+    printed: &'a RefCell<Output<W>>,
+) -> Result<Vec<Source<LiveInput<'a, Input, W>>>, u8>
     ensures { IfOk result (λ sources. AreUnread sources.items) }
 {
     let mut sources = Vec::new(rt.alloc());
     for (title, signature) in titles.iter().zip(signatures) {
-        let input = SignatureInput::new(named(rt, title)?, signature);
-        if add_source(rt.alloc(), input, &mut sources).is_err() {
-            return Err(fail(rt, "memory ran out"));
+        let input = LiveInput {
+            input: opened(rt, title, titles.len() == 1)?,
+            output: SharedOutput { output: printed },
+            signature,
+        };
+        match sources.push(Source::new(rt.alloc(), input)) {
+            Ok(()) => {}
+            Err(_) => return Err(fail(rt, "memory ran out")),
         }
     }
     Ok(sources)
 }
 
-/// Opens a file that is read beside others; where it can't be opened, says why, and answers the
-/// exit status.
-fn named(rt: &HostRuntime, title: &str) -> Result<File, u8> {
+/// Opens a file, or standard input by `-`, where it is the only one; where it can't be opened, says
+/// why, and answers the exit status.
+fn opened(rt: &HostRuntime, title: &str, is_only: bool) -> Result<Input, u8> {
     if title == "-" {
+        if is_only {
+            return Ok(Input::Standard(rt.stdin()));
+        }
         let why = "several files are read by their names, and standard input has none";
-        return Err(misuse(rt, title, why));
+        return Err(refuse(rt, title, why, BAD_USAGE));
     }
-    opened(rt, title)
+    if matches!(metadata(rt, title), Ok(found) if found.is_dir()) {
+        return Err(refuse(rt, title, "it is a directory: give a file of it", FAILED));
+    }
+    let why = match File::open(rt, title) {
+        Ok(file) => return Ok(Input::File(file)),
+        Err(error) => match error.kind() {
+            ErrorKind::NotFound => "there is no file of this name",
+            ErrorKind::PermissionDenied => "you may not read it: ask its owner, or use sudo",
+            _ => "it can't be opened",
+        },
+    };
+    Err(refuse(rt, title, why, FAILED))
 }
 
-/// Shows files that are open as one capture, and answers the exit status.
-fn look_side_by_side<R: Read + Drop>(
-    rt: &HostRuntime,
+/// Shows these inputs as one capture, and answers the exit status.
+fn show<R: Read + Drop, W: Write, E: Write>(
+    alloc: Global,
     titles: &[&str],
     asked: Asked,
     signatures: &[Cell<Signature>],
     mut sources: Vec<Source<R>>,
+    printed: &RefCell<Output<W>>,
+    errors: &mut E,
 ) -> u8
     requires { AreUnread sources.items }
 {
-    let Ok(mut output) = BufWriter::new(rt.alloc(), rt.stdout()) else {
-        return fail(rt, "memory ran out");
-    };
-    let Ok(mut errors) = BufWriter::new(rt.alloc(), rt.stderr()) else {
-        return fail(rt, "memory ran out");
-    };
-    let mut writer = Counted::new(&mut output);
-    let mut teller = Counted::new(&mut errors);
-    let code = run_several(
-        rt.alloc(),
+    let mut writer = Counted::new(SharedOutput { output: printed });
+    let mut teller = Counted::new(errors);
+    let code = run(
+        alloc,
         titles,
         asked,
         signatures,
@@ -189,28 +154,31 @@ fn look_side_by_side<R: Read + Drop>(
         &mut writer,
         &mut teller,
     );
-    let _output = writer.into_inner();
+    let _writer = writer.into_inner();
     let _errors = teller.into_inner();
-    finish(rt, Some(code), output, errors)
+    code
 }
 
 /// Writes out what the outputs still hold, and answers this exit status; that of a failure, where
-/// there is none or standard output can't be written.
+/// standard output can't be written.
 fn finish<W: Write + Drop, E: Write + Drop>(
     rt: &HostRuntime,
-    code: Option<u8>,
-    mut output: BufWriter<W>,
+    code: u8,
+    output: Output<BufWriter<W>>,
     mut errors: BufWriter<E>,
 ) -> u8 {
-    let flushed = output.flush();
+    let Output {
+        mut writer,
+        flush_failed,
+    } = output;
+    let flushed = writer.flush();
     // What a failed flush left is let go: it isn't written once more.
-    let (_output, _left) = output.into_parts();
-    let answer = match (code, flushed) {
-        (Some(code), Ok(())) => {
-            let _ = errors.flush();
-            code
-        }
-        _ => fail(rt, "standard output can't be written"),
+    let (_output, _left) = writer.into_parts();
+    let answer = if flush_failed || flushed.is_err() {
+        fail(rt, "standard output can't be written")
+    } else {
+        let _ = errors.flush();
+        code
     };
     let (_errors, _unwritten) = errors.into_parts();
     answer

@@ -1,9 +1,8 @@
-//! `nbt-look`: the NetBIOS packets of a capture file, a line for each, in words.
+//! `nbt-look`: the NetBIOS packets of capture files, a line for each, in words.
 #![tactic(auto)]
 
 mod asked;
 mod asking;
-mod cells;
 mod choosing;
 mod colours;
 mod command_line;
@@ -18,15 +17,12 @@ mod laws;
 mod lister;
 mod listing;
 mod looking;
-mod merging;
 mod messages;
-mod naming;
 mod objects;
 mod output;
 mod printing;
 mod program;
 mod reporting;
-mod running;
 mod signature;
 mod sources;
 mod standing;
@@ -38,7 +34,7 @@ mod widths;
 use crate::asking::{AskFault, asked_of};
 use crate::command_line::command;
 use crate::looking::look_at_all;
-use crate::messages::{BAD_USAGE, FAILED, fail, misuse, misuse_kind};
+use crate::messages::{BAD_USAGE, FAILED, fail, refuse};
 use clap::error::ErrorKind;
 use clap::{ArgMatches, Error};
 use std::alloc::{AllocError, Global};
@@ -60,7 +56,7 @@ fn start(rt: &HostRuntime) -> u8 {
     };
     match command.try_get_matches_from(words.as_slice()) {
         Ok(matches) => look_as(rt, &matches),
-        Err(error) => refuse(rt, &error),
+        Err(error) => stop(rt, &error),
     }
 }
 
@@ -73,32 +69,14 @@ fn words_of(rt: &HostRuntime) -> Option<Vec<String>> {
     Some(words)
 }
 
-/// Shows the file that is asked for, as it is asked for, and answers the exit status.
+/// Shows the files that are asked for, as it is asked for, and answers the exit status.
 fn look_as(rt: &HostRuntime, matches: &ArgMatches<'_>) -> u8 {
     let Ok(titles) = titles_of(rt.alloc(), matches) else {
         return fail(rt, "memory ran out");
     };
     match asked_of(rt.alloc(), matches, is_plain(rt)) {
         Ok(asked) => look_at_all(rt, titles.as_slice(), asked),
-        Err(AskFault::Host(word)) => misuse(
-            rt,
-            word,
-            "no address: give one such as 10.0.0.5, or a network as 10.0.0.0/8",
-        ),
-        Err(AskFault::Kind(word)) => misuse_kind(rt, word),
-        Err(AskFault::Unread(word)) => misuse(
-            rt,
-            word,
-            "a kind of packets of port 139, which aren't read yet",
-        ),
-        Err(AskFault::Time(word)) => {
-            misuse(rt, word, "no way to show times: give start, or utc")
-        }
-        Err(AskFault::Colour(word)) => misuse(
-            rt,
-            word,
-            "no way to choose colours: give auto, always, or never",
-        ),
+        Err(AskFault::Word(word, why)) => refuse(rt, word, why, BAD_USAGE),
         Err(AskFault::NoMemory) => fail(rt, "memory ran out"),
     }
 }
@@ -109,8 +87,8 @@ fn is_plain(rt: &HostRuntime) -> bool {
     if !rt.stdout().is_terminal() {
         return true;
     }
-    let asked = env::var(rt, "NO_COLOR").is_ok_and(|word| !word.is_empty());
-    asked || env::var(rt, "TERM").is_ok_and(|word| word.as_str() == "dumb")
+    matches!(env::var(rt, "NO_COLOR"), Ok(word) if !word.is_empty())
+        || matches!(env::var(rt, "TERM"), Ok(word) if word.as_str() == "dumb")
 }
 
 /// The names of files, those of `-r` first.
@@ -122,7 +100,7 @@ fn titles_of<'a>(alloc: Global, matches: &ArgMatches<'a>) -> Result<Vec<&'a str>
 }
 
 /// Says what clap has in the place of matches: help, the version, or what is wrong.
-fn refuse(rt: &HostRuntime, error: &Error) -> u8 {
+fn stop(rt: &HostRuntime, error: &Error) -> u8 {
     match error.kind() {
         ErrorKind::OutOfMemory => fail(rt, "memory ran out"),
         ErrorKind::DisplayHelp | ErrorKind::DisplayVersion => {

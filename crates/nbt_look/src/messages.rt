@@ -1,6 +1,5 @@
 //! What is said on standard error where nothing is shown.
 
-use crate::kinds::WORDS;
 use std::io::Write;
 
 /// The status of a bad command line.
@@ -16,23 +15,9 @@ pub fn fail(rt: &HostRuntime, why: &str) -> u8 {
     FAILED
 }
 
-/// Says why a file isn't read.
-pub fn fail_at(rt: &HostRuntime, title: &str, why: &str) -> u8 {
+/// Says what is wrong with a file or a word of the command line, and answers this exit status.
+pub fn refuse(rt: &HostRuntime, subject: &str, why: &str, status: u8) -> u8 {
     let mut errors = rt.stderr();
-    let _ = writeln!(errors, "nbt-look: {title}: {why}");
-    FAILED
-}
-
-/// Says what is wrong with a word of the command line.
-pub fn misuse(rt: &HostRuntime, word: &str, why: &str) -> u8 {
-    let mut errors = rt.stderr();
-    let _ = writeln!(errors, "nbt-look: {word}: {why}");
-    BAD_USAGE
-}
-
-/// Says that a word is no kind of packets, and which kinds there are.
-pub fn misuse_kind(rt: &HostRuntime, word: &str) -> u8 {
-    let mut errors = rt.stderr();
-    let _ = writeln!(errors, "nbt-look: {word}: no kind: give {WORDS}");
-    BAD_USAGE
+    let _ = writeln!(errors, "nbt-look: {subject}: {why}");
+    status
 }

@@ -108,7 +108,7 @@ fn tell_standing<S: Sink>(
 }
 
 /// What is shown of a packet.
-#[derive(Clone, Copy, Debug)]
+#[derive(Clone, Copy)]
 pub struct Shown<'a> {
     /// The time of the first frame that has one.
     pub first: Option<u64>,

@@ -1,9 +1,10 @@
-//! How the program ends: what it says of a fault, and its exit status.
-ghost use Rattle.std.specs.Prelude.{◌≡◌, ◌++◌, ◌≤◌, OnOk, string_bytes};
-ghost use Rattle.nbt_look.specs.FaultTexts.{fault_line, fault_status, fault_words, other_text, placed_text, print_text, sort_text, status_of, stopped_text};
+//! What the program says of a fault, and the exit status of one.
+ghost use Rattle.std.specs.Prelude.{◌≡◌, ◌++◌, OnOk, string_bytes};
+ghost use Rattle.nbt_look.specs.FaultTexts.{fault_line, fault_words, placed_text, print_text, status_in, stopped_text};
 
-use crate::printing::{Ending, PrintFault};
+use crate::printing::PrintFault;
 use crate::signature::Sort;
+use crate::sources::{Ending, Waiting};
 use nb_pcap::FileFault;
 use nb_streams::{NoMemory, push_decimal};
 
@@ -39,40 +40,8 @@ fn push_placed(fault: FileFault, frames: u64, place: u64, text: &mut String) -> 
     push_decimal(frames, text)
 }
 
-/// Adds a fault of an input of any other sort.
-fn push_other(fault: FileFault, frames: u64, place: u64, text: &mut String) -> Result<(), NoMemory>
-    ensures { OnOk result
-        (string_bytes text.new ≡ string_bytes text.old ++ other_text fault frames place) }
-{
-    match fault {
-        FileFault::UnknownForm if place == 0 => text.push_str(OTHER_FORM)?,
-        _ => return push_placed(fault, frames, place, text),
-    }
-    Ok(())
-}
-
-/// Adds what an input is that isn't read, by its first bytes.
-fn push_sort(
-    sort: Sort,
-    fault: FileFault,
-    frames: u64,
-    place: u64,
-    text: &mut String,
-) -> Result<(), NoMemory>
-    ensures { OnOk result
-        (string_bytes text.new ≡ string_bytes text.old ++ sort_text sort fault frames place) }
-{
-    match sort {
-        Sort::Empty => text.push_str("it is empty, and a capture file has a header: capture anew")?,
-        Sort::Gzip => {
-            text.push_str("it is compressed by gzip: zcat FILE | nbt-look - reads it")?
-        }
-        Sort::Other => return push_other(fault, frames, place, text),
-    }
-    Ok(())
-}
-
-/// Adds why a file isn't read further.
+/// Adds why a file isn't read further: the fault with its place, or what the input is of which
+/// nothing is read, by its first bytes.
 fn push_stopped(
     sort: Sort,
     fault: FileFault,
@@ -83,14 +52,42 @@ fn push_stopped(
     ensures { OnOk result
         (string_bytes text.new ≡ string_bytes text.old ++ stopped_text sort fault frames place) }
 {
-    match fault {
-        FileFault::UnknownForm | FileFault::Cut => push_sort(sort, fault, frames, place, text),
-        _ => push_placed(fault, frames, place, text),
+    match (sort, fault) {
+        (Sort::Empty, FileFault::UnknownForm | FileFault::Cut) => {
+            text.push_str("it is empty, and a capture file has a header: capture anew")?
+        }
+        (Sort::Gzip, FileFault::UnknownForm | FileFault::Cut) => {
+            text.push_str("it is compressed by gzip: zcat FILE | nbt-look - reads it")?
+        }
+        (Sort::Other, FileFault::UnknownForm) if place == 0 => text.push_str(OTHER_FORM)?,
+        _ => return push_placed(fault, frames, place, text),
     }
+    Ok(())
+}
+
+/// Adds the line about a file of this title and sort, which has this to give, where it isn't read to
+/// its end.
+pub fn push_fault(
+    title: &str,
+    sort: Sort,
+    waiting: Waiting,
+    text: &mut String,
+) -> Result<(), NoMemory>
+    ensures { OnOk result
+        (string_bytes text.new ≡ string_bytes text.old ++ fault_line title.now sort waiting) }
+{
+    if let Waiting::Ended(Ending::Stopped(fault, frames, place)) = waiting {
+        text.push_str("nbt-look: ")?;
+        text.push_str(title)?;
+        text.push_str(": ")?;
+        push_stopped(sort, fault, frames, place, text)?;
+        text.push_str("\n")?;
+    }
+    Ok(())
 }
 
 /// Why what was read isn't printed.
-fn print_text(fault: PrintFault) -> &'static str
+pub fn print_text(fault: PrintFault) -> &'static str
     ensures { result.now ≡ print_text fault }
 {
     match fault {
@@ -99,50 +96,13 @@ fn print_text(fault: PrintFault) -> &'static str
     }
 }
 
-/// Adds the line about a file of this title that isn't read, or printed, to its end.
-pub fn push_fault(
-    title: &str,
-    sort: Sort,
-    outcome: Result<Ending, PrintFault>,
-    text: &mut String,
-) -> Result<(), NoMemory>
-    ensures { OnOk result
-        (string_bytes text.new ≡ string_bytes text.old ++ fault_line title.now sort outcome) }
+/// The exit status of a file that has this to give.
+pub fn status_in(waiting: Waiting) -> u8
+    ensures { result ≡ status_in waiting }
 {
-    match outcome {
-        Ok(Ending::Whole | Ending::Enough) => return Ok(()),
-        Ok(Ending::Stopped(fault, frames, place)) => {
-            text.push_str("nbt-look: ")?;
-            text.push_str(title)?;
-            text.push_str(": ")?;
-            push_stopped(sort, fault, frames, place, text)?;
-        }
-        Err(fault) => {
-            text.push_str("nbt-look: ")?;
-            text.push_str(print_text(fault))?;
-        }
-    }
-    text.push_str("\n")?;
-    Ok(())
-}
-
-/// The status of a fault of a file.
-fn fault_status(fault: FileFault) -> u8
-    ensures { result ≡ fault_status fault }
-{
-    match fault {
-        FileFault::Read | FileFault::NoMemory => 3,
-        _ => 1,
-    }
-}
-
-/// The exit status.
-pub fn status_of(outcome: Result<Ending, PrintFault>) -> u8
-    ensures { result ≡ status_of outcome }
-{
-    match outcome {
-        Ok(Ending::Whole | Ending::Enough) => 0,
-        Ok(Ending::Stopped(fault, _, _)) => fault_status(fault),
-        Err(_) => 3,
+    match waiting {
+        Waiting::Ended(Ending::Stopped(FileFault::Read | FileFault::NoMemory, _, _)) => 3,
+        Waiting::Ended(Ending::Stopped(..)) => 1,
+        _ => 0,
     }
 }

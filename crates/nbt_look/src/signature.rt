@@ -2,15 +2,11 @@
 ghost use Rattle.std.specs.Prelude.{◌≡◌};
 ghost use Rattle.nbt_look.specs.Beginning.{sort_of};
 
-use std::cell::Cell;
-use std::io;
-use std::io::Read;
-
 /// What gzip's files begin with (RFC 1952 section 2.3.1).
 const GZIP: (u8, u8) = (0x1f, 0x8b);
 
 /// What an input is that is no capture file, by its first bytes.
-#[derive(Clone, Copy, Debug, PartialEq, Eq)]
+#[derive(Clone, Copy)]
 pub enum Sort {
     /// It has no byte.
     Empty,
@@ -21,7 +17,7 @@ pub enum Sort {
 }
 
 /// The first two bytes of an input, as far as it was read.
-#[derive(Clone, Copy, Debug, PartialEq, Eq)]
+#[derive(Clone, Copy)]
 pub struct Signature {
     /// The first one.
     pub first: Option<u8>,
@@ -50,7 +46,7 @@ impl Signature {
     }
 
     /// The signature once these bytes were read too.
-    fn with(self, read: &[u8]) -> Signature {
+    pub fn with(self, read: &[u8]) -> Signature {
         let mut signature = self;
         for byte in read {
             if signature.first.is_none() {
@@ -62,29 +58,5 @@ impl Signature {
             }
         }
         signature
-    }
-}
-
-/// An input whose signature is kept in a cell.
-#[derive(Drop)]
-pub struct SignatureInput<'a, R> {
-    input: R,
-    signature: &'a Cell<Signature>,
-}
-
-impl<'a, R> SignatureInput<'a, R> {
-    /// This input, of which nothing was read yet, with this cell.
-    pub fn new(input: R, signature: &'a Cell<Signature>) -> SignatureInput<'a, R> {
-        SignatureInput { input, signature }
-    }
-}
-
-impl<'a, R: Read> Read for SignatureInput<'a, R> {
-    ghost remaining = { λ r. R.remaining r.input };
-
-    fn read(&mut self, buf: &mut [u8]) -> io::Result<usize> {
-        let count = self.input.read(buf)?;
-        self.signature.set(self.signature.get().with(&buf[..count]));
-        Ok(count)
     }
 }

@@ -1,20 +1,30 @@
-//! Files that are read side by side, each as far as its next frame.
+//! The files that are read, each as far as its next frame.
 ghost use Rattle.std.specs.Prelude.{◌≡◌, ◌<◌, IfSome, MatchOption, length};
-ghost use Rattle.nbt_look.specs.Listing.{text_in};
+ghost use Rattle.nb_pcap.specs.Reading.{Numbered, last_of};
 ghost use Rattle.nbt_look.specs.Merging.{comes_first};
-ghost use Rattle.nbt_look.specs.Several.{AreUnread, GivesTo, ending_in};
+ghost use Rattle.nbt_look.specs.Printing.{GivenAt, PrintsFrame};
 ghost use Rattle.nbt_look.specs.Sources.{Fills, FillsAll, IsFirst, NoneFirst, earlier_of, time_in, unread};
 
 use crate::lister::Lister;
-use crate::printing::{Ending, stopped};
-use nb_pcap::{FileRoom, Frame, next_frame};
-use nb_streams::{Counted, NoMemory};
+use crate::printing::PrintFault;
+use nb_pcap::{FileFault, FileRoom, Frame, next_frame};
+use nb_streams::Counted;
+use nb_streams::output::write_whole;
 use std::alloc::Global;
-use std::io::Read;
+use std::io::{Read, Write};
 use std::marker::Model;
 
+/// How the reading of a file ended.
+#[derive(Clone, Copy)]
+pub enum Ending {
+    /// All of it was read.
+    Whole,
+    /// It can't be read further, for this fault, after so many frames, from this byte on.
+    Stopped(FileFault, u64, u64),
+}
+
 /// What a file has to give next.
-#[derive(Clone, Copy, Debug, PartialEq, Eq)]
+#[derive(Clone, Copy)]
 pub enum Waiting {
     /// It isn't known.
     Unread,
@@ -24,7 +34,7 @@ pub enum Waiting {
     Ended(Ending),
 }
 
-/// A file that is read beside others.
+/// A file that is read, as one of several.
 #[derive(Drop)]
 pub struct Source<R: Read> {
     reader: Counted<R>,
@@ -68,58 +78,41 @@ impl<R: Read> Source<R> {
         self.waiting = match next_frame(&mut self.file, &mut self.reader) {
             Ok(Some(frame)) => Waiting::Frame(frame.time),
             Ok(None) => Waiting::Ended(Ending::Whole),
-            Err(fault) => Waiting::Ended(stopped(&self.file, fault)),
+            Err(fault) => {
+                Waiting::Ended(Ending::Stopped(fault, self.file.frames(), self.file.place()))
+            }
         };
     }
 
-    /// Makes the text of the frame that the file has to give, as frame `number` of all.
-    pub fn make(&mut self, number: u64, lister: &mut Lister) -> Result<(), NoMemory>
-        ensures { GivesTo number self.old self.new lister.old.listing lister.new.listing
-            (text_in lister.new) result }
+    /// Prints the text of the frame that the file has to give, as frame `number` of all.
+    pub fn print<W: Write>(
+        &mut self,
+        number: u64,
+        lister: &mut Lister,
+        writer: &mut Counted<W>,
+    ) -> Result<(), PrintFault>
+        ensures given { GivenAt result self.old self.new }
+        ensures prints { (found : Numbered) → last_of self.old.file ≡ Some found
+            → PrintsFrame number found.frame lister.old.listing lister.new.listing
+            (W.contents writer.old.inner) (W.contents writer.new.inner)
+            writer.old.counts writer.new.counts result }
     {
         if let Some(frame) = self.file.last_frame() {
             lister.make(&Frame { number, ..frame })?;
         }
         self.waiting = Waiting::Unread;
-        Ok(())
-    }
-
-    /// How the reading ended, where it did.
-    pub fn ending(&self) -> Ending
-        ensures { result ≡ ending_in self.now.waiting }
-    {
-        match self.waiting {
-            Waiting::Unread | Waiting::Frame(_) => Ending::Enough,
-            Waiting::Ended(ending) => ending,
+        match write_whole(writer, lister.printed()) {
+            Ok(()) => Ok(()),
+            Err(_) => Err(PrintFault::Write),
         }
     }
 
-    /// The time of the frame that the file has to give, where it has one.
-    fn time(&self) -> Option<Option<u64>>
-        ensures { result ≡ time_in self.now.waiting }
+    /// What the file has to give next.
+    pub fn waiting(&self) -> Waiting
+        ensures { result ≡ self.now.waiting }
     {
-        match self.waiting {
-            Waiting::Frame(time) => Some(time),
-            Waiting::Unread | Waiting::Ended(_) => None,
-        }
+        self.waiting
     }
-}
-
-/// Adds this input to files of which nothing was read.
-///
-/// # Errors
-///
-/// [`NoMemory`] where memory ran out. The files are then as they were.
-pub fn add_source<R: Read + Drop>(
-    alloc: Global,
-    input: R,
-    sources: &mut Vec<Source<R>>,
-) -> Result<(), NoMemory>
-    requires { AreUnread sources.old.items }
-    ensures { AreUnread sources.new.items }
-{
-    sources.push(Source::new(alloc, input))?;
-    Ok(())
 }
 
 /// Whether a frame of this time comes before one of the other time, which is of a file that was
@@ -135,31 +128,25 @@ fn comes_first(time: Option<u64>, other: Option<u64>) -> bool
 }
 
 /// The place and the time of the frame that comes first, where this one did so far, and a file that
-/// was given later, at this place, has one of this time to give.
+/// was given later, at this place, has this to give.
 fn earlier_of(
     first: Option<(usize, Option<u64>)>,
     at: usize,
-    time: Option<Option<u64>>,
+    waiting: Waiting,
 ) -> Option<(usize, Option<u64>)>
-    ensures { result ≡ earlier_of first at time }
+    ensures { result ≡ earlier_of first at (time_in waiting) }
 {
-    let Some(time) = time else {
+    let Waiting::Frame(time) = waiting else {
         return first;
     };
     match first {
-        None => Some((at, time)),
-        Some(first) => {
-            if comes_first(first.1, time) {
-                Some(first)
-            } else {
-                Some((at, time))
-            }
-        }
+        Some(best) if comes_first(best.1, time) => Some(best),
+        _ => Some((at, time)),
     }
 }
 
 /// Reads the next frame of each file, where it isn't known what it has to give.
-fn fill_all<R: Read>(sources: &mut [Source<R>])
+pub fn fill_all<R: Read>(sources: &mut [Source<R>])
     ensures { FillsAll sources.old sources.new }
 {
     for source in sources.iter_mut() {
@@ -168,27 +155,16 @@ fn fill_all<R: Read>(sources: &mut [Source<R>])
 }
 
 /// The place of the file whose frame comes first, where one has a frame to give.
-fn first_of<R: Read>(sources: &[Source<R>]) -> Option<usize>
+pub fn first_of<R: Read>(sources: &[Source<R>]) -> Option<usize>
     ensures first { MatchOption result (NoneFirst sources.now) (IsFirst sources.now) }
     ensures within { IfSome result (λ at. at < length sources.now) }
 {
     let mut first: Option<(usize, Option<u64>)> = None;
     for (at, source) in sources.iter().enumerate() {
-        first = earlier_of(first, at, source.time());
+        first = earlier_of(first, at, source.waiting());
     }
     match first {
         Some((at, _)) => Some(at),
         None => None,
     }
-}
-
-/// The place of the file whose frame comes first, once the next frame of each is read; none where
-/// all are at their ends.
-pub fn next_source<R: Read>(sources: &mut [Source<R>]) -> Option<usize>
-    ensures filled { FillsAll sources.old sources.new }
-    ensures first { MatchOption result (NoneFirst sources.new) (IsFirst sources.new) }
-    ensures within { IfSome result (λ at. at < length sources.new) }
-{
-    fill_all(sources);
-    first_of(sources)
 }

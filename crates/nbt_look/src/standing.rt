@@ -1,7 +1,7 @@
 //! What is said of a datagram: its phrase, or that not all of it is there.
 ghost use Rattle.std.specs.Prelude.{◌≡◌, ◌++◌, ℕ, List, OnOk, string_bytes};
 ghost use Rattle.nb_pcap.specs.Frame.{value_of};
-ghost use Rattle.nbt_look.specs.Standing.{SaysStanding, cut_frame_text, cut_payload_text, cut_text, of_bytes, outcome_in, standing_of};
+ghost use Rattle.nbt_look.specs.Standing.{SaysStanding, cut_text, outcome_in, part_text, standing_of};
 
 use crate::counting::{LeftOut, Outcome};
 use nb_frames::Payload;
@@ -10,7 +10,7 @@ use nb_streams::{NoMemory, push_decimal};
 use nb_text::push_brief;
 
 /// How much of a payload there is in its frame.
-#[derive(Clone, Copy, Debug, PartialEq, Eq)]
+#[derive(Clone, Copy)]
 pub enum Standing {
     /// All of it.
     Whole,
@@ -33,37 +33,21 @@ pub fn standing_of(frame: &Frame<'_>, payload: &Payload<'_>) -> Standing
     Standing::BadLength
 }
 
-/// Adds so many bytes of so many.
-fn push_of_bytes(some: usize, all: u64, text: &mut String) -> Result<(), NoMemory>
-    ensures { OnOk result (string_bytes text.new ≡ string_bytes text.old ++ of_bytes some all) }
+/// Adds that so many bytes are there of so many.
+fn push_part(what: &str, some: u64, all: u64, text: &mut String) -> Result<(), NoMemory>
+    ensures { OnOk result
+        (string_bytes text.new ≡ string_bytes text.old ++ part_text what.now some all) }
 {
-    push_decimal(some as u64, text)?;
+    text.push_str(what)?;
+    push_decimal(some, text)?;
     text.push_str(" of ")?;
     push_decimal(all, text)?;
     text.push_str(" bytes")?;
     Ok(())
 }
 
-/// Adds what is said of a frame that the snap length cut before its payload.
-fn push_cut_frame(captured: usize, original: u64, text: &mut String) -> Result<(), NoMemory>
-    ensures { OnOk result
-        (string_bytes text.new ≡ string_bytes text.old ++ cut_frame_text captured original) }
-{
-    text.push_str("left out: cut by the snap length, ")?;
-    push_of_bytes(captured, original, text)
-}
-
-/// Adds what is said of a payload that the snap length cut.
-fn push_cut_payload(held: usize, wire: usize, text: &mut String) -> Result<(), NoMemory>
-    ensures { OnOk result
-        (string_bytes text.new ≡ string_bytes text.old ++ cut_payload_text held wire) }
-{
-    text.push_str("cut: ")?;
-    push_of_bytes(held, wire as u64, text)
-}
-
-/// Adds what is said where the snap length cut a payload: `held` of its `wire` bytes are there, and
-/// `captured` of the `original` bytes of its frame.
+/// Adds what is said where the snap length cut a payload: `held` of its `wire` bytes are there, or
+/// where none is, `captured` of the `original` bytes of its frame.
 fn push_cut(
     captured: usize,
     original: u64,
@@ -75,9 +59,10 @@ fn push_cut(
         (string_bytes text.new ≡ string_bytes text.old ++ cut_text captured original held wire) }
 {
     if held == 0 {
-        return push_cut_frame(captured, original, text);
+        let what = "left out: cut by the snap length, ";
+        return push_part(what, captured as u64, original, text);
     }
-    push_cut_payload(held, wire, text)
+    push_part("cut: ", held as u64, wire as u64, text)
 }
 
 /// Adds what is said of a payload of this port that stands so.

@@ -1,6 +1,6 @@
 //! The times of frames.
 ghost use Rattle.std.specs.Prelude.{◌≡◌, ◌++◌, ◌∷◌, [], ℕ, List, OnOk, string_bytes};
-ghost use Rattle.nbt_look.specs.Times.{IsTime, IsUtc, digit, first_after, seconds_text, since_text, six_digits, time_text};
+ghost use Rattle.nbt_look.specs.Times.{IsTime, IsUtc, digit, seconds_text, six_digits, time_text};
 
 use crate::asked::Times;
 use jiff_core::Timestamp;
@@ -11,16 +11,6 @@ use nb_streams::{NoMemory, push_decimal};
 const SECOND: u64 = 1_000_000_000;
 
 const MICROSECOND: u64 = 1_000;
-
-/// The time of the first frame that has one, once a frame with this one came.
-pub fn first_after(first: Option<u64>, at: Option<u64>) -> Option<u64>
-    ensures { result ≡ first_after first at }
-{
-    match first {
-        Some(first) => Some(first),
-        None => at,
-    }
-}
 
 /// Adds the last digit of a number.
 fn push_digit(number: u64, text: &mut String) -> Result<(), NoMemory>
@@ -52,23 +42,16 @@ fn push_seconds(nanoseconds: u64, text: &mut String) -> Result<(), NoMemory>
     push_six_digits(nanoseconds % SECOND / MICROSECOND, text)
 }
 
-/// Adds the time of a frame, where this is that of the first one.
-fn push_since(first: u64, at: u64, text: &mut String) -> Result<(), NoMemory>
-    ensures { OnOk result (string_bytes text.new ≡ string_bytes text.old ++ since_text first at) }
-{
-    if at < first {
-        text.push_str("-")?;
-        return push_seconds(first - at, text);
-    }
-    push_seconds(at - first, text)
-}
-
 /// Adds the time of a frame since the first one that has one, or `-`.
-fn push_relative(first: Option<u64>, at: Option<u64>, text: &mut String) -> Result<(), NoMemory>
+fn push_since(first: Option<u64>, at: Option<u64>, text: &mut String) -> Result<(), NoMemory>
     ensures { OnOk result (string_bytes text.new ≡ string_bytes text.old ++ time_text first at) }
 {
     match (first, at) {
-        (Some(first), Some(at)) => push_since(first, at, text),
+        (Some(first), Some(at)) if at < first => {
+            text.push_str("-")?;
+            push_seconds(first - at, text)
+        }
+        (Some(first), Some(at)) => push_seconds(at - first, text),
         _ => {
             text.push_str("-")?;
             Ok(())
@@ -98,7 +81,7 @@ pub fn push_time(
         × (string_bytes text.new ≡ string_bytes text.old ++ said)) }
 {
     match (times, at) {
-        (Times::Since, _) => push_relative(first, at, text),
+        (Times::Since, _) => push_since(first, at, text),
         (Times::Utc, Some(at)) => push_utc(at, text),
         (Times::Utc, None) => {
             text.push_str("-")?;

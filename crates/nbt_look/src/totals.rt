@@ -1,7 +1,6 @@
 //! The last lines, which say how many frames there are, and what they have.
 ghost use Rattle.std.specs.Prelude.{◌≡◌, ◌++◌, false, OnOk, string_bytes};
-ghost use Rattle.nbt_look.specs.Totals.{last_lines, lead_text, left_out_text, none_text, others_text, packets_text, plural_text, reason_text, reasons_text, shown_text, totals_text, without_text};
-ghost use Rattle.nbt_look.specs.Wanted.{wants_all};
+ghost use Rattle.nbt_look.specs.Totals.{last_lines, left_out_text, packets_text, plural_text, reason_text, reasons_text, shown_text, without_text};
 
 use crate::counting::{ALL, Counts, LeftOut};
 use crate::listing::Listing;
@@ -21,17 +20,15 @@ fn push_plural(count: u64, what: &str, text: &mut String) -> Result<(), NoMemory
     Ok(())
 }
 
-/// Adds how many frames and packets there are.
-fn push_packets(counts: &Counts, text: &mut String) -> Result<(), NoMemory>
-    ensures { OnOk result
-        (string_bytes text.new ≡ string_bytes text.old ++ packets_text counts.now) }
+/// Adds how many frames a reason left out, where others stand before it or none.
+fn push_reason(begun: bool, count: u64, reason: LeftOut, text: &mut String) -> Result<(), NoMemory>
+    ensures { OnOk result (string_bytes text.new
+        ≡ string_bytes text.old ++ reason_text begun count reason) }
 {
-    push_plural(counts.frames, "frame", text)?;
-    text.push_str(", ")?;
-    push_plural(counts.packets, "packet", text)?;
-    text.push_str(", ")?;
-    push_decimal(counts.malformed, text)?;
-    text.push_str(" malformed, ")?;
+    text.push_str(if begun { ", " } else { ": " })?;
+    push_decimal(count, text)?;
+    text.push_str(" ")?;
+    text.push_str(reason.words())?;
     Ok(())
 }
 
@@ -51,26 +48,21 @@ fn push_reasons(counts: &Counts, reasons: &[LeftOut], text: &mut String) -> Resu
     Ok(())
 }
 
-/// What stands before a reason, where another one stands before it or none.
-fn lead(begun: bool) -> &'static str
-    ensures { result.now ≡ lead_text begun }
+/// Adds how many frames and packets there are.
+fn push_packets(counts: &Counts, text: &mut String) -> Result<(), NoMemory>
+    ensures { OnOk result
+        (string_bytes text.new ≡ string_bytes text.old ++ packets_text counts.now) }
 {
-    if begun { ", " } else { ": " }
-}
-
-/// Adds how many frames a reason left out, where others stand before it or none.
-fn push_reason(begun: bool, count: u64, reason: LeftOut, text: &mut String) -> Result<(), NoMemory>
-    ensures { OnOk result (string_bytes text.new
-        ≡ string_bytes text.old ++ reason_text begun count reason) }
-{
-    text.push_str(lead(begun))?;
-    push_decimal(count, text)?;
-    text.push_str(" ")?;
-    text.push_str(reason.words())?;
+    push_plural(counts.frames, "frame", text)?;
+    text.push_str(", ")?;
+    push_plural(counts.packets, "packet", text)?;
+    text.push_str(", ")?;
+    push_decimal(counts.malformed, text)?;
+    text.push_str(" malformed, ")?;
     Ok(())
 }
 
-/// Adds how many frames are left out, and why.
+/// Adds how many are left out, and why.
 fn push_left_out(counts: &Counts, text: &mut String) -> Result<(), NoMemory>
     ensures { OnOk result
         (string_bytes text.new ≡ string_bytes text.old ++ left_out_text counts.now) }
@@ -80,67 +72,37 @@ fn push_left_out(counts: &Counts, text: &mut String) -> Result<(), NoMemory>
     push_reasons(counts, &ALL, text)
 }
 
-/// Adds how many packets have a line, where not all are wanted.
+/// Adds the end of the line of counts: how many packets have a line, where not all are wanted.
 fn push_shown_count(all: bool, shown: u64, text: &mut String) -> Result<(), NoMemory>
     ensures { OnOk result
         (string_bytes text.new ≡ string_bytes text.old ++ shown_text all shown) }
 {
-    if all {
-        return Ok(());
+    if !all {
+        text.push_str("; ")?;
+        push_decimal(shown, text)?;
+        text.push_str(" shown")?;
     }
-    text.push_str("; ")?;
-    push_decimal(shown, text)?;
-    text.push_str(" shown")?;
-    Ok(())
-}
-
-/// Adds how many frames have no packet, where others have.
-fn push_others(counts: &Counts, text: &mut String) -> Result<(), NoMemory>
-    ensures { OnOk result
-        (string_bytes text.new ≡ string_bytes text.old ++ others_text counts.now) }
-{
-    if counts.packets == 0 || counts.others == 0 {
-        return Ok(());
-    }
-    push_plural(counts.others, "frame", text)?;
-    text.push_str(" without a packet: ")?;
-    push_plural(counts.others, "frame", text)?;
-    text.push_str(" of other ports and protocols\n")?;
-    Ok(())
-}
-
-/// Adds that there is no frame of the ports, where that is so.
-fn push_none(counts: &Counts, text: &mut String) -> Result<(), NoMemory>
-    ensures { OnOk result
-        (string_bytes text.new ≡ string_bytes text.old ++ none_text counts.now) }
-{
-    if counts.has_none() {
-        text.push_str("no frame has UDP of port 137 or 138, or TCP of port 139\n")?;
-    }
-    Ok(())
-}
-
-/// Adds the line that counts frames and packets.
-fn push_totals(listing: &Listing, text: &mut String) -> Result<(), NoMemory>
-    ensures { OnOk result
-        (string_bytes text.new ≡ string_bytes text.old ++ totals_text listing.now) }
-{
-    push_packets(&listing.counts, text)?;
-    push_left_out(&listing.counts, text)?;
-    push_shown_count(listing.asked.wanted.wants_all(), listing.shown, text)?;
     text.push_str("\n")?;
     Ok(())
 }
 
-/// Adds what is said where some frames have no packet.
+/// Adds how many frames have no packet, where others have and all are wanted, or that none is of the
+/// ports.
 fn push_without(all: bool, counts: &Counts, text: &mut String) -> Result<(), NoMemory>
     ensures { OnOk result
         (string_bytes text.new ≡ string_bytes text.old ++ without_text all counts.now) }
 {
-    if all {
-        push_others(counts, text)?;
+    if counts.has_none() {
+        text.push_str("no frame has UDP of port 137 or 138, or TCP of port 139\n")?;
+        return Ok(());
     }
-    push_none(counts, text)
+    if all && counts.packets != 0 && counts.others != 0 {
+        push_plural(counts.others, "frame", text)?;
+        text.push_str(" without a packet: ")?;
+        push_plural(counts.others, "frame", text)?;
+        text.push_str(" of other ports and protocols\n")?;
+    }
+    Ok(())
 }
 
 /// Adds the last lines.
@@ -148,6 +110,9 @@ pub fn push_last(listing: &Listing, text: &mut String) -> Result<(), NoMemory>
     ensures { OnOk result
         (string_bytes text.new ≡ string_bytes text.old ++ last_lines listing.now) }
 {
-    push_totals(listing, text)?;
-    push_without(listing.asked.wanted.wants_all(), &listing.counts, text)
+    let all = listing.asked.wanted.wants_all();
+    push_packets(&listing.counts, text)?;
+    push_left_out(&listing.counts, text)?;
+    push_shown_count(all, listing.shown, text)?;
+    push_without(all, &listing.counts, text)
 }

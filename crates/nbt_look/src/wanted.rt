@@ -1,6 +1,6 @@
 //! Which packets of the list are wanted.
 ghost use Rattle.std.specs.Prelude.{◌≡◌};
-ghost use Rattle.nbt_look.specs.Wanted.{begins_as, front_bits, is_at, is_between, is_enough, is_of, is_port, looks_inside, wants, wants_all};
+ghost use Rattle.nbt_look.specs.Wanted.{begins_as, front_bits, is_at, is_between, is_enough, is_of, looks_inside, wants, wants_all};
 
 use crate::kinds::Kind;
 use nb_frames::{Hosts, Ports, UdpDatagram};
@@ -8,7 +8,7 @@ use nb_streams::{Bytes, Items};
 use std::net::IpAddr;
 
 /// Addresses that begin with the same bits.
-#[derive(Clone, Copy, Debug, PartialEq, Eq)]
+#[derive(Clone, Copy)]
 pub struct Prefix {
     /// One of them.
     pub start: IpAddr,
@@ -116,20 +116,13 @@ fn is_between(prefixes: &[Prefix], hosts: Hosts) -> bool
     prefixes.is_empty() || is_of(prefixes, hosts.source) || is_of(prefixes, hosts.destination)
 }
 
-/// Whether a port is one of these.
-fn is_port(ports: &[u16], port: u16) -> bool
-    ensures { result ≡ is_port ports.now port }
-{
-    ports.iter().any(|one| *one == port)
-}
-
 /// Whether one of these ports is the sender's, the receiver's or that of the service; any does
 /// where there is none.
 fn is_at(ports: &[u16], ends: Ports, service: u16) -> bool
     ensures { result ≡ is_at ports.now ends service }
 {
     ports.is_empty()
-        || is_port(ports, ends.source)
-        || is_port(ports, ends.destination)
-        || is_port(ports, service)
+        || ports.contains(&ends.source)
+        || ports.contains(&ends.destination)
+        || ports.contains(&service)
 }

@@ -1,13 +1,12 @@
 //! The widths of columns, and the cells that stand in them.
-ghost use Rattle.std.specs.Prelude.{◌≡◌, ◌++◌, length, OnOk, string_bytes, codes};
-ghost use Rattle.nbt_look.specs.Columns.{at_left, at_right, back_columns, columns_text, first_widths, front_columns, line_text, spaces, widened, wider};
+ghost use Rattle.std.specs.Prelude.{◌≡◌, ◌++◌, OnOk, string_bytes};
+ghost use Rattle.nbt_look.specs.Columns.{at_left, at_right, columns_text, line_text, spaces, widened};
 
 use nb_streams::NoMemory;
-use std::alloc::Global;
 use std::marker::Model;
 
 /// The widths of the columns before the phrase, in bytes.
-#[derive(Clone, Copy, Debug, PartialEq, Eq)]
+#[derive(Clone, Copy)]
 pub struct Widths {
     /// That of the number.
     pub number: usize,
@@ -42,51 +41,16 @@ impl Model for Cells {
     } };
 }
 
-impl Cells {
-    /// Empty ones. No memory is taken.
-    pub fn new(alloc: Global) -> Cells {
-        Cells {
-            number: String::new(alloc),
-            time: String::new(alloc),
-            source: String::new(alloc),
-            target: String::new(alloc),
-        }
-    }
-}
-
-/// A width, or that of the cell where it is more.
-fn wider(width: usize, cell: &str) -> usize
-    ensures { result ≡ wider width cell.now }
-{
-    if width < cell.len() {
-        cell.len()
-    } else {
-        width
-    }
-}
-
 impl Widths {
-    /// Those before the first line.
-    pub fn first() -> Widths
-        ensures { result ≡ first_widths }
-    {
-        Widths {
-            number: 5,
-            time: 9,
-            source: 15,
-            target: 15,
-        }
-    }
-
     /// Those once these cells stand in the columns too.
     pub fn widened(self, cells: &Cells) -> Widths
         ensures { result ≡ widened self cells.now }
     {
         Widths {
-            number: wider(self.number, cells.number.as_str()),
-            time: wider(self.time, cells.time.as_str()),
-            source: wider(self.source, cells.source.as_str()),
-            target: wider(self.target, cells.target.as_str()),
+            number: self.number.max(cells.number.len()),
+            time: self.time.max(cells.time.len()),
+            source: self.source.max(cells.source.len()),
+            target: self.target.max(cells.target.len()),
         }
     }
 }
@@ -103,70 +67,53 @@ fn push_spaces(count: usize, text: &mut String) -> Result<(), NoMemory>
     Ok(())
 }
 
-/// Adds a cell at the right of a column of this width.
+/// Adds a cell at the right of a column of this width, and the space after the column.
 fn push_right(width: usize, cell: &str, text: &mut String) -> Result<(), NoMemory>
     ensures { OnOk result
         (string_bytes text.new ≡ string_bytes text.old ++ at_right width cell.now) }
 {
     push_spaces(width.saturating_sub(cell.len()), text)?;
     text.push_str(cell)?;
+    text.push_str(" ")?;
     Ok(())
 }
 
-/// Adds a cell at the left of a column of this width.
+/// Adds a cell at the left of a column of this width, and the space after the column.
 fn push_left(width: usize, cell: &str, text: &mut String) -> Result<(), NoMemory>
     ensures { OnOk result
         (string_bytes text.new ≡ string_bytes text.old ++ at_left width cell.now) }
 {
     text.push_str(cell)?;
-    push_spaces(width.saturating_sub(cell.len()), text)
-}
-
-/// Adds the first two columns of a line.
-fn push_front(widths: Widths, cells: &Cells, text: &mut String) -> Result<(), NoMemory>
-    ensures { OnOk result
-        (string_bytes text.new ≡ string_bytes text.old ++ front_columns widths cells.now) }
-{
-    push_right(widths.number, cells.number.as_str(), text)?;
-    text.push_str(" ")?;
-    push_right(widths.time, cells.time.as_str(), text)?;
-    text.push_str(" ")?;
-    Ok(())
-}
-
-/// Adds the other two.
-fn push_back(widths: Widths, cells: &Cells, text: &mut String) -> Result<(), NoMemory>
-    ensures { OnOk result
-        (string_bytes text.new ≡ string_bytes text.old ++ back_columns widths cells.now) }
-{
-    push_left(widths.source, cells.source.as_str(), text)?;
-    text.push_str(" ")?;
-    push_left(widths.target, cells.target.as_str(), text)?;
+    push_spaces(width.saturating_sub(cell.len()), text)?;
     text.push_str(" ")?;
     Ok(())
 }
 
 /// Adds the columns of a line.
-pub fn push_columns(widths: Widths, cells: &Cells, text: &mut String) -> Result<(), NoMemory>
+fn push_columns(widths: Widths, cells: &Cells, text: &mut String) -> Result<(), NoMemory>
     ensures { OnOk result
         (string_bytes text.new ≡ string_bytes text.old ++ columns_text widths cells.now) }
 {
-    push_front(widths, cells, text)?;
-    push_back(widths, cells, text)
+    push_right(widths.number, cells.number.as_str(), text)?;
+    push_right(widths.time, cells.time.as_str(), text)?;
+    push_left(widths.source, cells.source.as_str(), text)?;
+    push_left(widths.target, cells.target.as_str(), text)
 }
 
-/// Adds a line: its columns and a phrase.
+/// Adds a line: a colour or nothing, its columns, a phrase, and the end of the colour.
 pub fn push_line(
+    colour: &str,
     widths: Widths,
     cells: &Cells,
     phrase: &str,
     text: &mut String,
 ) -> Result<(), NoMemory>
-    ensures { OnOk result
-        (string_bytes text.new ≡ string_bytes text.old ++ line_text widths cells.now phrase.now) }
+    ensures { OnOk result (string_bytes text.new
+        ≡ string_bytes text.old ++ line_text colour.now widths cells.now phrase.now) }
 {
+    text.push_str(colour)?;
     push_columns(widths, cells, text)?;
     text.push_str(phrase)?;
-    text.push_str("\n")?;
+    text.push_str(if colour.is_empty() { "\n" } else { "\x1b[0m\n" })?;
     Ok(())
 }

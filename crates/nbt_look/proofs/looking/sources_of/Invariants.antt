@@ -1,5 +1,5 @@
-use Rattle.nbt_look.specs.Several.{AreUnread}
+use Rattle.nbt_look.specs.Printing.{AreUnread}
 use Rattle.nbt_look.proofs.looking.sources_of.Given as goal
 
 abbrev pub invariant-loop-title : goal.invariant-loop-title
-invariant-loop-title l = AreUnread l.sources.items
+invariant-loop-title g l = AreUnread l.sources.items

@@ -1,4 +1,4 @@
-use Rattle.nbt_look.proofs.SourcesLemmas.{IsBest}
+use Rattle.nbt_look.proofs.TurnLemmas.{IsBest}
 use Rattle.nbt_look.proofs.sources.first_of.Given as goal
 
 abbrev pub invariant-loop-at : goal.invariant-loop-at

@@ -1,6 +1,0 @@
-use Rattle.std.proofs.Common.{◌≡◌, drop, fold}
-use Rattle.nbt_look.specs.Several.{worse}
-use Rattle.nbt_look.proofs.running.worst_status.Given as goal
-
-abbrev pub invariant-loop-source : goal.invariant-loop-source
-invariant-loop-source g l = fold worse l.status (drop l.source-index l.sources) ≡ fold worse 0 l.sources

@@ -2,9 +2,9 @@
 ghost use Rattle.std.specs.Prelude.{◌≡◌, ◌≤◌, Ok, length};
 ghost use Rattle.nb_pcap.specs.declared.limits.TheConstants.{PACKET_LENGTH, SIMPLE_LENGTH};
 ghost use Rattle.nb_pcap.specs.Block.{block_size, least_length};
-ghost use Rattle.nb_pcap.specs.Section.{captured_of, simple_head, timed_head, fitting, section_after, content_of, block_content, Gives};
+ghost use Rattle.nb_pcap.specs.Section.{simple_head, timed_head, fitting, section_after, content_of, block_content, Gives};
 
-use crate::block::{BlockKind, block_order, has_two_lengths, kind_in};
+use crate::block::{BlockKind, block_order, kind_in};
 use crate::clock::{Clock, time_at};
 use crate::describing::describe;
 use crate::fault::FileFault;
@@ -15,7 +15,7 @@ use nb_streams::{Bytes, Items};
 use std::alloc::Global;
 
 /// An interface, as its section describes it.
-#[derive(Debug, Drop)]
+#[derive(Drop)]
 pub struct Interface {
     /// What its frames begin with (LINKTYPE).
     pub link: u16,
@@ -28,7 +28,7 @@ pub struct Interface {
 }
 
 /// A section of a file.
-#[derive(Debug, Drop)]
+#[derive(Drop)]
 pub struct Section {
     /// The order of the bytes of its numbers.
     pub order: Order,
@@ -52,17 +52,6 @@ fn fitting(head: Head, room: usize) -> Result<Head, FileFault>
     Ok(head)
 }
 
-/// How many bytes of a frame a Simple Packet has.
-fn captured_of(snap: u32, original: u32) -> u32
-    ensures { result ≡ captured_of snap original }
-{
-    if snap != 0 && snap < original {
-        snap
-    } else {
-        original
-    }
-}
-
 /// Where the frame of a Simple Packet stands.
 fn simple_head(section: &Section, block: &[u8]) -> Result<Head, FileFault>
     requires { SIMPLE_LENGTH ≤ length block.now }
@@ -71,12 +60,16 @@ fn simple_head(section: &Section, block: &[u8]) -> Result<Head, FileFault>
     match section.interfaces.as_slice().get(0) {
         Some(interface) => {
             let original = number_32(section.order, block, 8);
+            let captured = match interface.snap {
+                0 => original,
+                snap => snap.min(original),
+            };
             let head = Head {
                 interface: 0,
                 link: interface.link,
                 time: None,
                 start: 12,
-                captured: captured_of(interface.snap, original) as usize,
+                captured: captured as usize,
                 original,
             };
             fitting(head, block.len() - SIMPLE_LENGTH)
@@ -168,7 +161,7 @@ pub fn take_block(
     let kind = kind_in(section.order, block);
     match block_order(section.order, block) {
         Some(order) => {
-            if !has_two_lengths(order, block) {
+            if number_32(order, block, block.len() - 4) as usize != block.len() {
                 return Err(FileFault::BadBlock);
             }
             take_kind(alloc, kind, order, section, block)

@@ -1,6 +1,5 @@
 -- Reading from part to part.
-use Rattle.std.proofs.Common.{◌≡◌, ◌⊎◌, inl, inr, ◌<◌, ◌≤◌, ◌+◌, ◌-◌, ◌++◌, ◌∷◌, ℕ, List, [], take, length, Option, Some, None, Result, Ok, Err, Bool, refl, sym, subst, ◌∙◌, ap, append_assoc, arith}
-use Rattle.std.specs.Io.KnownBytes.{IsAtEnd}
+use Rattle.std.proofs.Common.{◌≡◌, ◌⊎◌, inl, inr, ◌<◌, ◌≤◌, ◌+◌, ◌-◌, ◌++◌, ◌∷◌, ℕ, List, [], take, length, Option, Some, None, Result, Ok, Err, refl, sym, subst, ◌∙◌, ap, append_assoc, arith}
 use Rattle.std.proofs.lemmas.List.{append-nil, length-append, length-drop, take-append-drop}
 use Rattle.nb_streams.specs.Counted.{Counts}
 use Rattle.nb_streams.specs.Room.{RoomValue, handed_out}
@@ -8,8 +7,8 @@ use Rattle.nb_streams.specs.declared.limits.TheConstants.{MAX_READ}
 use Rattle.nb_pcap.specs.declared.context.Context.{Context}
 use Rattle.nb_pcap.specs.declared.fault.FileFault.{FileFault}
 use Rattle.nb_pcap.specs.declared.frame.Head.{Head}
-use Rattle.nb_pcap.specs.Context.{size_of, content, passes_over}
-use Rattle.nb_pcap.specs.File.{IsEnd, IsPart, IsUnfinished, Spells, no_part, frames_of, in_content}
+use Rattle.nb_pcap.specs.Context.{size_of, content}
+use Rattle.nb_pcap.specs.File.{IsPart, IsUnfinished, Spells, no_part, frames_of, in_content}
 use Rattle.nb_pcap.specs.Section.{Taken, Gives}
 use Rattle.nb_pcap.specs.Seeking.{Seeks, SeeksFrame}
 use Rattle.nb_pcap.specs.Steps.{Passes, Reads, Stops, Took, bad, no_memory}
@@ -38,13 +37,6 @@ seeks_none c place room known counts place_is within near = record {
   within = within;
   ahead = λ n says there. omega (arith, near);
 }
-
--- what was said of the bytes of a room
-pub said_of : (c : Context) (bytes rest : List ℕ) (r x : Result ℕ FileFault) → r ≡ size_of c bytes → bytes ≡ rest → r ≡ x → size_of c rest ≡ x
-said_of c bytes rest r x is same ok = ap (size_of c) (sym same) ∙ sym is ∙ ok
-
-pub passed_of : (c : Context) (bytes rest : List ℕ) (b x : Bool) → b ≡ passes_over c bytes → bytes ≡ rest → b ≡ x → passes_over c rest ≡ x
-passed_of c bytes rest b x is same read = ap (passes_over c) (sym same) ∙ sym is ∙ read
 
 -- ---- more bytes
 
@@ -199,22 +191,6 @@ pub seeks_stops : (c mid next : Context) (place there : ℕ) (old room : RoomVal
 seeks_stops c mid next place there old room before now counts midway why w stops same =
     rw same (seeks_fails c mid place there [] old room room before now now counts midway midway why w (took_none room room now midway refl refl)
     (subst (λ (b : List ℕ). Stops mid b now midway midway room why) (sym (append-nil room.rest)) stops))
-
--- the file ends
-pub seeks_end : (c mid : Context) (place there : ℕ) (old room : RoomValue) (before now : Option (List ℕ)) (counts midway : Counts)
-    → IsSeeking c place old before now counts midway mid there room → IsEnd mid room.rest → IsAtEnd now → SeeksFrame c place old before now counts midway (Ok None) mid there room
-seeks_end c mid place there old room before now counts midway w is at_end = (
-  record {
-    got = w.got;
-    took = w.took;
-    spells = subst (λ (b : List ℕ). Spells c (old.rest ++ w.got) [] mid b) is.nothing w.spells;
-    place_is = omega (arith, w.place_is, ap length is.nothing);
-    after = omega (arith, w.after);
-  },
-  at_end,
-  is.begun,
-  is.nothing,
-)
 
 -- nothing came, and what is held is unfinished
 pub unfinished : (mid : Context) (size : ℕ) (rest came all : List ℕ) → size_of mid rest ≡ Ok size → length rest < size → length came ≡ 0 → all ≡ rest ++ came

@@ -1,5 +1,5 @@
 -- How many bytes a part has is said by its first ones.
-use Rattle.std.proofs.Common.{◌≡◌, ◌⊎◌, inl, inr, ◌<◌, ◌≤◌, ◌+◌, ◌++◌, ◌&&◌, ℕ, List, take, drop, length, Option, Some, None, Result, Ok, Err, Bool, true, false, not, cond, nat_eq, nat_lt, nat_le, is_some, refl, sym, subst, ◌∙◌, ap, arith}
+use Rattle.std.proofs.Common.{◌≡◌, ◌⊎◌, inl, inr, ◌<◌, ◌≤◌, ◌+◌, ◌++◌, ℕ, List, take, drop, length, Option, Some, None, Result, Ok, Err, Bool, true, false, cond, nat_eq, nat_lt, is_some, refl, sym, subst, ◌∙◌, ap, arith}
 use Rattle.std.specs.Int.{w32}
 use Rattle.std.proofs.lemmas.List.{length-append, length-drop, length-take-le, take-append-drop, drop-append-le, take-append-le}
 use Rattle.nb_pcap.specs.declared.block.BlockKind.{BlockKind}
@@ -9,12 +9,12 @@ use Rattle.nb_pcap.specs.declared.context.Context.TheVariants.{Beginning, Record
 use Rattle.nb_pcap.specs.declared.fault.FileFault.{FileFault}
 use Rattle.nb_pcap.specs.declared.fault.FileFault.TheVariants.{UnknownForm, TooLong}
 use Rattle.nb_pcap.specs.declared.form.Form.{Form}
-use Rattle.nb_pcap.specs.declared.limits.TheConstants.{BLOCK_LENGTH, RECORD_LENGTH, HEADER_LENGTH, MAX_ITEM, MAX_CAPTURED}
+use Rattle.nb_pcap.specs.declared.limits.TheConstants.{RECORD_LENGTH, HEADER_LENGTH, MAX_CAPTURED}
 use Rattle.nb_pcap.specs.declared.numbers.Order.{Order}
 use Rattle.nb_pcap.specs.declared.numbers.Order.TheVariants.{Little}
-use Rattle.nb_pcap.specs.Block.{kind_of, kind_in, block_order, sized_in, size_said, block_size, least_length, is_read}
+use Rattle.nb_pcap.specs.Block.{kind_of, kind_in, block_order, sized_in, size_said, block_size, least_length}
 use Rattle.nb_pcap.specs.Classic.{marks, record_size}
-use Rattle.nb_pcap.specs.Context.{size_of, passes_over}
+use Rattle.nb_pcap.specs.Context.{size_of}
 use Rattle.nb_pcap.specs.Numbers.{number, in_order}
 
 -- a number that stands before what came
@@ -89,55 +89,38 @@ least_is Simple = omega arith
 least_is Enhanced = omega arith
 least_is Other = omega arith
 
--- what is known where a block of this kind has so many bytes
-record Sized (kind : BlockKind) (n : ℕ) : Type 0 where
-  least_there : least_length kind ≤ n
-  few : is_read kind ≡ true → n ≤ MAX_ITEM
+in_least : (kind : BlockKind) (own : Option Order) (front : List ℕ) (n : ℕ) → sized_in kind own front ≡ Ok n → least_length kind ≤ n
+in_least kind None front n says = absurd (cc)
+in_least kind (Some own) front n says = grind (arith, says)
 
-in_says : (kind : BlockKind) (own : Option Order) (front : List ℕ) (n : ℕ) → sized_in kind own front ≡ Ok n → Sized kind n
-in_says kind None front n says = absurd (cc)
-in_says kind (Some own) front n says = record { least_there = grind (arith, says); few = λ reads. grind (arith, reads, says) }
-
-block_says : (order : Order) (bytes : List ℕ) (n : ℕ) → 12 ≤ length bytes → block_size order bytes ≡ Ok n → Sized (kind_in order bytes) n
-block_says order bytes n long says =
-    subst (λ (k : BlockKind). Sized k n) (front_kind order bytes long)
-    (in_says (kind_in order (take 12 bytes)) (block_order order (take 12 bytes)) (take 12 bytes) n (sym (block_long order bytes long) ∙ says))
+kind_least : (order : Order) (bytes : List ℕ) (n : ℕ) → 12 ≤ length bytes → block_size order bytes ≡ Ok n → least_length (kind_in order bytes) ≤ n
+kind_least order bytes n long says =
+    subst (λ (k : BlockKind). least_length k ≤ n) (front_kind order bytes long)
+    (in_least (kind_in order (take 12 bytes)) (block_order order (take 12 bytes)) (take 12 bytes) n (sym (block_long order bytes long) ∙ says))
 
 pub block_least : (order : Order) (bytes : List ℕ) (n : ℕ) → (length bytes < 12) ⊎ (12 ≤ length bytes) → block_size order bytes ≡ Ok n → 12 ≤ n
 block_least order bytes n (inl short) says = grind (arith, short, says)
-block_least order bytes n (inr long) says = omega (arith, least_is (kind_in order bytes), (block_says order bytes n long says).least_there)
-
-block_few : (order : Order) (bytes : List ℕ) (n : ℕ) → (length bytes < 12) ⊎ (12 ≤ length bytes) → (12 ≤ length bytes → is_read (kind_in order bytes) ≡ true)
-    → block_size order bytes ≡ Ok n → n ≤ MAX_ITEM
-block_few order bytes n (inl short) reads says = grind (arith, short, says)
-block_few order bytes n (inr long) reads says = (block_says order bytes n long says).few (reads long)
+block_least order bytes n (inr long) says = omega (arith, least_is (kind_in order bytes), kind_least order bytes n long says)
 
 -- a whole block is as long as its kind
 pub whole_block : (order : Order) (block : List ℕ) → block_size order block ≡ Ok (length block) → least_length (kind_in order block) ≤ length block
-whole_block order block says =
-    (block_says order block (length block) (block_least order block (length block) (either (length block) 12) says) says).least_there
+whole_block order block says = kind_least order block (length block) (block_least order block (length block) (either (length block) 12) says) says
 
-section_first : (n : ℕ) → nat_eq n 0x0a0d0d0a ≡ true → is_read (kind_of n) ≡ true
-section_first n is = grind (arith, is)
+first_least : (classic section : Bool) (block : Result ℕ FileFault) (n : ℕ) → (block ≡ Ok n → 12 ≤ n)
+    → cond classic (Ok HEADER_LENGTH) (cond section block (Err UnknownForm)) ≡ Ok n → 12 ≤ n
+first_least true section block n least_there says = omega (arith, ok_is HEADER_LENGTH n (Ok HEADER_LENGTH) refl says)
+first_least false true block n least_there says = least_there says
+first_least false false block n least_there says = absurd (cc)
 
-first_says : (classic section : Bool) (bytes : List ℕ) (n : ℕ) → nat_eq (number Little w32 bytes 0) 0x0a0d0d0a ≡ section
-    → cond classic (Ok HEADER_LENGTH) (cond section (block_size Little bytes) (Err UnknownForm)) ≡ Ok n → (12 ≤ n) × (n ≤ MAX_ITEM)
-first_says true section bytes n is says =
-    let size : 24 ≡ n = ok_is HEADER_LENGTH n (Ok HEADER_LENGTH) refl says in (omega (arith, size), omega (arith, size))
-first_says false true bytes n is says =
-    (block_least Little bytes n (either (length bytes) 12) says, block_few Little bytes n (either (length bytes) 12) (λ long. section_first (number Little w32 bytes 0) is) says)
-first_says false false bytes n is says = absurd (cc)
-
-beginning_says : (bytes : List ℕ) (n : ℕ) → (length bytes < 4) ⊎ (4 ≤ length bytes) → size_of Beginning bytes ≡ Ok n → (n ≤ length bytes → 12 ≤ n) × (n ≤ MAX_ITEM)
-beginning_says bytes n (inl short) says =
-    let is : n ≡ 4 = grind (arith, short, says) in (λ within. absurd (omega (arith, is, short, within)), omega (arith, is))
-beginning_says bytes n (inr long) says =
-    let m : ℕ = number Little w32 bytes 0 in
-    let f = first_says (is_some (marks m)) (nat_eq m 0x0a0d0d0a) bytes n refl (sym (begun bytes long) ∙ says) in (λ within. f.0, f.1)
+begins_long : (bytes : List ℕ) (n : ℕ) → size_of Beginning bytes ≡ Ok n → n ≤ length bytes → 4 ≤ length bytes
+begins_long bytes n says within = grind (arith, says, within)
 
 -- a whole part has as many bytes as say how long it is
 pub least_size : (c : Context) (bytes : List ℕ) (n : ℕ) → size_of c bytes ≡ Ok n → n ≤ length bytes → least c ≤ n
-least_size Beginning bytes n says within = (beginning_says bytes n (either (length bytes) 4) says).0 within
+least_size Beginning bytes n says within =
+    let m : ℕ = number Little w32 bytes 0 in
+    first_least (is_some (marks m)) (nat_eq m 0x0a0d0d0a) (block_size Little bytes) n (block_least Little bytes n (either (length bytes) 12))
+    (sym (begun bytes (begins_long bytes n says within)) ∙ says)
 least_size (Records form) bytes n says within = grind (arith, says)
 least_size (Blocks section) bytes n says within = block_least section.order bytes n (either (length bytes) 12) says
 
@@ -152,13 +135,3 @@ whole_part c bytes n says within =
     let size : length (take n bytes) ≡ n = length-take-le n bytes within in
     let long : least c ≤ length (take n bytes) = omega (arith, size, least_size c bytes n says within) in
     sym (size_same c (take n bytes) (drop n bytes) long) ∙ ap (size_of c) (take-append-drop n bytes) ∙ says ∙ ap Ok (sym size)
-
-is_long : (reads : Bool) (size : ℕ) → nat_le BLOCK_LENGTH size && not reads ≡ false → 12 ≤ size → reads ≡ true
-is_long reads size read long = grind (arith, long, read)
-
--- a part that isn't passed over has no more bytes than are held
-pub few_bytes : (c : Context) (bytes : List ℕ) (n : ℕ) → passes_over c bytes ≡ false → size_of c bytes ≡ Ok n → n ≤ MAX_ITEM
-few_bytes Beginning bytes n read says = (beginning_says bytes n (either (length bytes) 4) says).1
-few_bytes (Records form) bytes n read says = grind (arith, says)
-few_bytes (Blocks section) bytes n read says =
-    block_few section.order bytes n (either (length bytes) 12) (λ long. is_long (is_read (kind_in section.order bytes)) (length bytes) read long) says

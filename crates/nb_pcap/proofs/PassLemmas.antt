@@ -1,6 +1,8 @@
 -- A block that is passed over.
-use Rattle.std.proofs.Common.{◌≡◌, ◌<◌, ◌≤◌, ◌+◌, ◌-◌, ◌++◌, ◌∷◌, ◌&&◌, ℕ, suc, min, List, [], take, drop, length, Option, None, Result, Ok, Err, Bool, true, false, not, cond, nat_eq, nat_le, refl, sym, subst, ◌∙◌, ap, append_assoc, arith, eq-eqb}
+use Rattle.std.proofs.Common.{◌≡◌, ◌<◌, ◌≤◌, ◌+◌, ◌-◌, ◌++◌, ◌&&◌, ℕ, min, List, [], take, drop, length, Option, None, Result, Ok, Err, Bool, true, false, not, cond, nat_le, refl, sym, subst, ◌∙◌, ap, append_assoc, arith, eq-eqb}
 use Rattle.std.specs.Int.{w32}
+use Rattle.std.proofs.Math.Seq.{drop-append-add}
+use Rattle.std.proofs.lemmas.Bool.{ne_eqb}
 use Rattle.std.proofs.lemmas.List.{append-nil, length-append, length-drop, length-take-le, take-append-drop, take_at}
 use Rattle.nb_streams.specs.Counted.{Counts}
 use Rattle.nb_streams.specs.Room.{RoomValue, handed_out}
@@ -102,20 +104,9 @@ part_content c rest got part more size p two all size_is lengths =
 
 -- ---- what is said of it
 
-differ : (m n : ℕ) → (m ≡ n → ⊥) → nat_eq m n ≡ false
-differ m n other = grind arith
-
-drop_past : (xs ys : List ℕ) (k : ℕ) → drop (length xs + k) (xs ++ ys) ≡ drop k ys
-drop_past [] ys k =
-    let same : 0 + k ≡ k = omega arith in
-    ap (λ (n : ℕ). drop n ys) same
-drop_past (x ∷ xs) ys k =
-    let same : length (x ∷ xs) + k ≡ suc (length xs + k) = omega arith in
-    ap (λ (n : ℕ). drop n (x ∷ (xs ++ ys))) same ∙ drop_past xs ys k
-
 -- the number in the last four bytes
 number_behind : (order : Order) (xs ys : List ℕ) (at k : ℕ) → at ≡ length xs + k → number order w32 (xs ++ ys) at ≡ number order w32 ys k
-number_behind order xs ys at k is = ap (λ (b : List ℕ). in_order order w32 (take 4 b)) (ap (λ (n : ℕ). drop n (xs ++ ys)) is ∙ drop_past xs ys k)
+number_behind order xs ys at k is = ap (λ (b : List ℕ). in_order order w32 (take 4 b)) (ap (λ (n : ℕ). drop n (xs ++ ys)) is ∙ drop-append-add xs ys k)
 
 -- ---- the loop
 
@@ -243,7 +234,7 @@ block_bad c old mid before now counts later size left p w within other =
     let b = block_there old mid before now counts later p.section.order size left w within in
     let piece : List ℕ = w.passed ++ take left mid.rest in
     let two : has_two_lengths p.section.order piece ≡ false =
-    differ (number p.section.order w32 piece (length piece - 4)) (length piece) (λ h. other (sym b.last_is ∙ h ∙ b.size_is)) in
+    ne_eqb (number p.section.order w32 piece (length piece - 4)) (length piece) (λ h. other (sym b.last_is ∙ h ∙ b.size_is)) in
     let there : size ≤ length (old.rest ++ w.got) = omega (arith, ap length b.all, length-append piece (drop left mid.rest), b.size_is) in
     let front : take size (old.rest ++ w.got) ≡ piece = ap (take size) b.all ∙ take_at piece (drop left mid.rest) size b.size_is in
     record {

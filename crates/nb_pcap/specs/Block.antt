@@ -1,5 +1,6 @@
 -- Blocks of pcapng (draft-ietf-opsawg-pcapng): each has its type 4, its length 4, its body, and its length again 4. The type of a
--- Section Header is the same in both orders of bytes, and its body begins with a magic number that tells the order of its section.
+-- Section Header is the same in both orders of bytes, and its body begins with a magic number that tells the order of its section. The
+-- version after that and the section's length aren't judged (our choice).
 use Rattle.std.specs.Prelude.{ℕ, ◌-◌, ◌%◌, ◌&&◌, ◌||◌, Bool, true, false, not, cond, nat_eq, nat_lt, List, take, length, Option, Some, None, Result, Ok, Err}
 use Rattle.std.specs.Int.{w32}
 use Rattle.nb_pcap.specs.declared.block.BlockKind.{BlockKind}

@@ -73,10 +73,6 @@ pub fn block_order(order: Order, bytes: &[u8]) -> Option<Order>
 }
 
 /// How many bytes the block has at least that begins with these bytes, as far as they say.
-///
-/// # Errors
-///
-/// [`FileFault::UnknownForm`], [`FileFault::BadBlock`] and [`FileFault::TooLong`].
 pub fn block_size(order: Order, bytes: &[u8]) -> Result<usize, FileFault>
     ensures { result ≡ block_size order bytes.now }
 {

@@ -26,10 +26,6 @@ pub enum Context {
 }
 
 /// How many bytes the part has at least that these bytes begin, as far as they say.
-///
-/// # Errors
-///
-/// [`FileFault::UnknownForm`], [`FileFault::TooLong`] and [`FileFault::BadBlock`].
 pub fn size_of(context: &Context, bytes: &[u8]) -> Result<usize, FileFault>
     ensures { result ≡ size_of context.now bytes.now }
 {
@@ -86,13 +82,8 @@ pub fn is_end(context: &Context, rest: &[u8]) -> bool
     }
 }
 
-/// Takes in a part of a file, which is as long as it says, and answers where a frame stands in it.
-///
-/// # Errors
-///
-/// [`FileFault::UnknownForm`], [`FileFault::BadBlock`], [`FileFault::TooLong`],
-/// [`FileFault::NoInterface`], [`FileFault::TooManyInterfaces`] and [`FileFault::NoMemory`]. The
-/// context is then as it was.
+/// Takes in a part of a file, which is as long as it says, and answers where a frame stands in it. At
+/// a fault the context is as it was.
 pub fn take_in(alloc: Global, context: &mut Context, part: &[u8]) -> Result<Option<Head>, FileFault>
     requires { size_of context.old part.now ≡ Ok (length part.now) }
     ensures { Gives (content context.old part.now) result context.old context.new }

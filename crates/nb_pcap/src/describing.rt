@@ -39,12 +39,7 @@ fn interface_of(
     })
 }
 
-/// Adds the interface that a block describes to its section.
-///
-/// # Errors
-///
-/// [`FileFault::TooManyInterfaces`], [`FileFault::BadBlock`] where an option runs past the block's
-/// end, and [`FileFault::NoMemory`]. The section is then as it was.
+/// Adds the interface that a block describes to its section, which at a fault is as it was.
 pub fn describe(
     alloc: Global,
     section: &mut Section,

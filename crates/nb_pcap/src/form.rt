@@ -73,10 +73,6 @@ pub fn record_head(form: Form, bytes: &[u8]) -> Head
 }
 
 /// How many bytes the record has at least that these bytes begin, as far as they say.
-///
-/// # Errors
-///
-/// [`FileFault::TooLong`].
 pub fn record_size(form: Form, bytes: &[u8]) -> Result<usize, FileFault>
     ensures { result ≡ record_size form bytes.now }
 {

@@ -66,12 +66,7 @@ fn pass_over<R: Read>(
 
 /// Reads to the next part that gives a frame, which the room then has handed out, and answers where
 /// the frame stands in it; `None` where there is no further one. The place is where the rest of the
-/// file begins.
-///
-/// # Errors
-///
-/// [`FileFault::Cut`], and those of [`size_of`], [`take_in`] and [`read_once`]. The place is then
-/// where the part begins that can't be read.
+/// file begins, and at a fault where the part begins that can't be read.
 pub fn find_frame<R: Read>(
     alloc: Global,
     room: &mut PartRoom,

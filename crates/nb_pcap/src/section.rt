@@ -1,8 +1,8 @@
 //! Sections of pcapng files: their interfaces, and the packets of these.
 ghost use Rattle.std.specs.Prelude.{◌≡◌, ◌≤◌, Ok, length};
 ghost use Rattle.nb_pcap.specs.declared.limits.TheConstants.{PACKET_LENGTH, SIMPLE_LENGTH};
-ghost use Rattle.nb_pcap.specs.Block.{block_size, least_length};
-ghost use Rattle.nb_pcap.specs.Section.{simple_head, timed_head, fitting, section_after, content_of, block_content, Gives};
+ghost use Rattle.nb_pcap.specs.Block.{block_size};
+ghost use Rattle.nb_pcap.specs.Section.{simple_head, timed_head, fitting, block_content, Gives};
 
 use crate::block::{BlockKind, block_order, kind_in};
 use crate::clock::{Clock, time_at};
@@ -101,32 +101,33 @@ fn timed_head(section: &Section, which: usize, block: &[u8]) -> Result<Head, Fil
     }
 }
 
-/// The section after another, with this order.
-fn section_after(alloc: Global, section: &Section, order: Order) -> Section
-    ensures { result ≡ section_after section.now order }
-{
-    let interfaces = section.interfaces.as_slice().len() as u64;
-    Section {
-        order,
-        interfaces: Items::from_vec(Vec::new(alloc)),
-        earlier: section.earlier.saturating_add(interfaces),
-    }
-}
-
-/// Takes in a whole block of this kind, the order of whose numbers is this.
-fn take_kind(
+/// Takes in a whole block, which is as long as it says, and answers where a frame stands in it. At a
+/// fault the section is as it was.
+#[tactic(auto, using(crate::proofs::SizeLemmas::whole_block))]
+pub fn take_block(
     alloc: Global,
-    kind: BlockKind,
-    order: Order,
     section: &mut Section,
     block: &[u8],
 ) -> Result<Option<Head>, FileFault>
-    requires { least_length kind ≤ length block.now }
-    ensures { Gives (content_of kind order section.old block.now) result section.old section.new }
+    requires { block_size section.old.order block.now ≡ Ok (length block.now) }
+    ensures { Gives (block_content section.old block.now) result section.old section.new }
 {
+    let kind = kind_in(section.order, block);
+    let order = match block_order(section.order, block) {
+        Some(order) => order,
+        None => return Err(FileFault::UnknownForm),
+    };
+    if number_32(order, block, block.len() - 4) as usize != block.len() {
+        return Err(FileFault::BadBlock);
+    }
     match kind {
         BlockKind::Section => {
-            *section = section_after(alloc, section, order);
+            let interfaces = section.interfaces.as_slice().len() as u64;
+            *section = Section {
+                order,
+                interfaces: Items::from_vec(Vec::new(alloc)),
+                earlier: section.earlier.saturating_add(interfaces),
+            };
             Ok(None)
         }
         BlockKind::Interface => describe(alloc, section, block),
@@ -140,32 +141,5 @@ fn take_kind(
             Ok(Some(timed_head(section, which, block)?))
         }
         BlockKind::Other => Ok(None),
-    }
-}
-
-/// Takes in a whole block, which is as long as it says, and answers where a frame stands in it.
-///
-/// # Errors
-///
-/// [`FileFault::UnknownForm`], [`FileFault::BadBlock`], [`FileFault::TooLong`],
-/// [`FileFault::NoInterface`], [`FileFault::TooManyInterfaces`] and [`FileFault::NoMemory`]. The
-/// section is then as it was.
-pub fn take_block(
-    alloc: Global,
-    section: &mut Section,
-    block: &[u8],
-) -> Result<Option<Head>, FileFault>
-    requires { block_size section.old.order block.now ≡ Ok (length block.now) }
-    ensures { Gives (block_content section.old block.now) result section.old section.new }
-{
-    let kind = kind_in(section.order, block);
-    match block_order(section.order, block) {
-        Some(order) => {
-            if number_32(order, block, block.len() - 4) as usize != block.len() {
-                return Err(FileFault::BadBlock);
-            }
-            take_kind(alloc, kind, order, section, block)
-        }
-        None => Err(FileFault::UnknownForm),
     }
 }

@@ -1,5 +1,5 @@
 -- Along the extension headers of a packet: what one turn of a loop adds.
-use Rattle.std.proofs.Common.{◌≡◌, ℕ, zero, suc, ◌+◌, ◌<◌, ◌≤◌, true, false, List, length, Option, Some, None, Result, Ok, Err, refl, sym, ◌∙◌, arith}
+use Rattle.std.proofs.Common.{◌≡◌, ℕ, zero, suc, ◌+◌, ◌<◌, ◌≤◌, true, false, List, length, Some, None, Result, Ok, Err, sym, arith}
 use Rattle.nb_frames.specs.declared.carried.Place.{Place}
 use Rattle.nb_frames.specs.declared.ipv6_reading.Upper.{Upper}
 use Rattle.nb_frames.specs.declared.reason.Reason.{Reason}

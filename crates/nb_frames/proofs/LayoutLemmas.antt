@@ -1,5 +1,5 @@
 -- What is laid out is what is read.
-use Rattle.std.proofs.Common.{◌≡◌, ℕ, ◌+◌, ◌*◌, ◌/◌, ◌%◌, ◌<◌, ◌≤◌, ◌^◌, ◌==◌, ◌||◌, ◌&&◌, true, false, List, [], ◌∷◌, ◌++◌, length, take, drop, Option, Some, None, Result, Ok, refl, ap, sym, subst, ◌∙◌, append_assoc, append-nil, length-append, arith, nat_le, nat_lt}
+use Rattle.std.proofs.Common.{◌≡◌, ℕ, ◌+◌, ◌*◌, ◌/◌, ◌%◌, ◌<◌, ◌≤◌, ◌^◌, ◌==◌, ◌&&◌, true, false, List, [], ◌∷◌, ◌++◌, length, take, drop, Some, None, Ok, refl, ap, sym, subst, ◌∙◌, append_assoc, append-nil, length-append, arith, nat_le}
 use Rattle.std.proofs.Math.Seq.{take-append_seam, drop-append_seam}
 use Rattle.std.proofs.lemmas.Bool.{le-leb}
 use Rattle.std.proofs.lemmas.Bool.Decides.{nat_tests}
@@ -10,19 +10,17 @@ use Rattle.std.specs.declared.net.ip_addr.IpAddr.TheVariants.{V4}
 use Rattle.nb_frames.specs.declared.carried.Carried.{Carried}
 use Rattle.nb_frames.specs.declared.carried.Carried.TheVariants.{Udp}
 use Rattle.nb_frames.specs.declared.carried.Hosts.{Hosts}
-use Rattle.nb_frames.specs.declared.carried.IpPacket.{IpPacket}
 use Rattle.nb_frames.specs.declared.carried.Place.{Place}
 use Rattle.nb_frames.specs.declared.carried.Ports.{Ports}
 use Rattle.nb_frames.specs.declared.link.Link.TheVariants.{Ethernet}
-use Rattle.nb_frames.specs.declared.reason.Reason.{Reason}
 use Rattle.nb_frames.specs.Fields.{byte_at, word_at, bytes_at}
 use Rattle.nb_frames.specs.Payload.{PayloadValue, rest_after, whole}
-use Rattle.nb_frames.specs.Ipv4.{header_4, wire_4, place_4, packet_4, ipv4}
+use Rattle.nb_frames.specs.Ipv4.{header_4, wire_4, place_4, packet_4}
 use Rattle.nb_frames.specs.Carried.{ip_in, version_of}
 use Rattle.nb_frames.specs.Contents.{Carries, HasContents, udp}
 use Rattle.nb_frames.specs.Layout.{TaggedDatagram, six, four, udp_bytes, ipv4_bytes, frame_bytes, IsLaidOut, contents_written}
 use Rattle.nb_frames.specs.Link.{mac_at, network_of}
-use Rattle.nb_frames.specs.Tags.{is_tag, follows, network_at, vlans_at}
+use Rattle.nb_frames.specs.Tags.{is_tag, follows, vlans_at}
 use Rattle.nb_frames.specs.Transport.{udp_in}
 use Rattle.nb_frames.proofs.TagsLemmas.{no_vlans, whole_tag, no_tag, not_before, tag_passed, type_there}
 

@@ -1,7 +1,6 @@
 -- A type and the tags before it: what one turn of a loop along the tags adds.
-use Rattle.std.proofs.Common.{◌≡◌, ◌≢◌, ℕ, zero, suc, ◌+◌, ◌-◌, ◌%◌, ◌<◌, ◌≤◌, ◌&&◌, Bool, true, false, List, [], ◌∷◌, ◌++◌, length, Result, Err, refl, ap, sym, ◌∙◌, append_assoc, append-nil, arith, nat_le, nat_lt}
+use Rattle.std.proofs.Common.{◌≡◌, ◌≢◌, ℕ, zero, suc, ◌+◌, ◌-◌, ◌%◌, ◌<◌, ◌≤◌, ◌&&◌, Bool, true, false, List, [], ◌∷◌, ◌++◌, length, Err, refl, ap, sym, ◌∙◌, append_assoc, append-nil, arith, nat_le, nat_lt}
 use Rattle.std.proofs.lemmas.Bool.Decides.{nat_tests}
-use Rattle.nb_frames.specs.declared.reason.Reason.{Reason}
 use Rattle.nb_frames.specs.declared.reason.Reason.TheVariants.{Cut, TooManyTags}
 use Rattle.nb_frames.specs.Fields.{word_at}
 use Rattle.nb_frames.specs.Tags.{is_tag, follows, network_at, vlans_at}

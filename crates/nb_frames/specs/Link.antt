@@ -4,14 +4,15 @@
 --   Linux cooked, version 2: type 2, reserved 2, interface 4, kind of address 2, kind 1, length 1, the sender's address 8
 --   raw IP: nothing
 --   loopback: the family of addresses 4, in either byte order
-use Rattle.std.specs.Prelude.{ℕ, ◌+◌, ◌==◌, ◌||◌, ◌&&◌, nat_le, nat_lt, Bool, List, [], length, Option, Some, None, Result, Ok, Err, if◌then◌else◌}
+use Rattle.std.specs.Prelude.{ℕ, ◌+◌, ◌==◌, ◌||◌, nat_le, nat_lt, Bool, List, [], length, Option, Some, None, Result, Ok, Err, if◌then◌else◌}
+use Rattle.std.specs.Int.{w32, from_le_bytes}
 use Rattle.nb_frames.specs.declared.limits.TheConstants.{MAX_TAGS}
 use Rattle.nb_frames.specs.declared.link.Link.{Link}
 use Rattle.nb_frames.specs.declared.link.Link.TheVariants.{Ethernet, Cooked, CookedV2, Raw, Loopback, Unknown}
 use Rattle.nb_frames.specs.declared.contents.Mac.{Mac}
 use Rattle.nb_frames.specs.declared.reason.Reason.{Reason}
 use Rattle.nb_frames.specs.declared.reason.Reason.TheVariants.{NoIp, UnknownLink, Cut}
-use Rattle.nb_frames.specs.Fields.{byte_at, word_at, bytes_at}
+use Rattle.nb_frames.specs.Fields.{byte_at, word_at, long_at, bytes_at}
 use Rattle.nb_frames.specs.Tags.{network_at, vlans_at}
 
 -- the link layer of a link type
@@ -28,15 +29,12 @@ link_of number =
 abbrev pub is_family : ℕ → Bool
 is_family number = number == 2 || number == 10 || number == 24 || number == 28 || number == 30
 
--- whether the frame begins with such a family in four bytes, in either byte order
-abbrev pub has_family : List ℕ → Bool
-has_family frame =
-    (is_family (byte_at frame 0) && byte_at frame 1 == 0 && word_at frame 2 == 0)
-    || (word_at frame 0 == 0 && byte_at frame 2 == 0 && is_family (byte_at frame 3))
-
--- where a packet of IP begins after a family of addresses
+-- where a packet of IP begins after such a family in four bytes, in either byte order
 abbrev pub after_family : List ℕ → Result ℕ Reason
-after_family frame = (if nat_lt (length frame) 4 then Err Cut else (if has_family frame then Ok 4 else Err NoIp))
+after_family frame =
+    (if nat_lt (length frame) 4 then Err Cut
+    else (if is_family (long_at frame 0) || is_family (from_le_bytes w32 (bytes_at 4 frame 0)) then Ok 4
+    else Err NoIp))
 
 -- where a packet of IP begins in the frame, or why none is read
 abbrev pub network_of : Link → List ℕ → Result ℕ Reason

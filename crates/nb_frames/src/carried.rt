@@ -8,7 +8,7 @@ use crate::tcp_flags::TcpFlags;
 use std::net::IpAddr;
 
 /// What a frame carries, lent from its bytes.
-#[derive(Debug, Drop)]
+#[derive(Drop)]
 pub enum Carried<'a> {
     /// A datagram of UDP.
     Udp(UdpDatagram<'a>),
@@ -59,7 +59,7 @@ pub struct Ports {
 }
 
 /// A datagram of UDP (RFC 768).
-#[derive(Debug, Drop)]
+#[derive(Drop)]
 pub struct UdpDatagram<'a> {
     /// From where to where its packet goes.
     pub hosts: Hosts,
@@ -71,7 +71,7 @@ pub struct UdpDatagram<'a> {
 }
 
 /// A segment of TCP (RFC 9293 section 3.1).
-#[derive(Debug, Drop)]
+#[derive(Drop)]
 pub struct TcpSegment<'a> {
     /// From where to where its packet goes.
     pub hosts: Hosts,
@@ -88,7 +88,7 @@ pub struct TcpSegment<'a> {
 }
 
 /// A fragment of a packet of IP.
-#[derive(Debug, Drop)]
+#[derive(Drop)]
 pub struct IpFragment<'a> {
     /// From where to where the packet goes.
     pub hosts: Hosts,
@@ -112,7 +112,7 @@ pub struct Place {
 }
 
 /// A packet of IP, without its headers.
-#[derive(Debug, Drop)]
+#[derive(Drop)]
 pub(crate) struct IpPacket<'a> {
     /// From where to where it goes.
     pub(crate) hosts: Hosts,

@@ -5,14 +5,14 @@ use crate::limits::MAX_TAGS;
 use arrayvec::ArrayVec;
 
 /// A hardware address of six bytes.
-#[derive(Clone, Copy, Debug, PartialEq, Eq, PartialOrd, Ord)]
+#[derive(Clone, Copy, Debug, PartialEq, Eq)]
 pub struct Mac {
     /// Its bytes.
     pub octets: [u8; 6],
 }
 
 /// What a frame has, lent from its bytes.
-#[derive(Debug, Drop)]
+#[derive(Drop)]
 pub struct Contents<'a> {
     /// Who sent it: of Ethernet, and of Linux cooked captures where they have it.
     pub sender: Option<Mac>,

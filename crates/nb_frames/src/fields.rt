@@ -1,15 +1,13 @@
-//! Fields of headers, and parts of bytes.
-ghost use Rattle.std.specs.Prelude.{◌≡◌, ◌+◌, ◌≤◌, length, take, drop};
+//! Fields of headers, and what follows them.
+ghost use Rattle.std.specs.Prelude.{◌≡◌, ◌+◌, ◌≤◌, length, drop};
 ghost use Rattle.nb_frames.specs.Fields.{word_at, long_at, bytes_at};
-
-use nb_streams::numbers::{number_16, number_32};
 
 /// The number in the two bytes at a place.
 pub(crate) fn word(bytes: &[u8], at: usize) -> u16
     requires { at + 2 ≤ length bytes.now }
     ensures { result ≡ word_at bytes.now at }
 {
-    number_16(bytes, at)
+    u16::from_be_bytes(octets(bytes, at))
 }
 
 /// The number in the four bytes at a place.
@@ -17,7 +15,7 @@ pub(crate) fn long(bytes: &[u8], at: usize) -> u32
     requires { at + 4 ≤ length bytes.now }
     ensures { result ≡ long_at bytes.now at }
 {
-    number_32(bytes, at)
+    u32::from_be_bytes(octets(bytes, at))
 }
 
 /// So many bytes at a place.
@@ -28,17 +26,6 @@ pub(crate) fn octets<const N: usize>(bytes: &[u8], at: usize) -> [u8; N]
     let mut octets = [0; N];
     octets.copy_from_slice(&bytes[at..at + N]);
     octets
-}
-
-/// So many bytes, or all where there are fewer.
-pub(crate) fn front(bytes: &[u8], count: usize) -> &[u8]
-    ensures { result.now ≡ take count bytes.now }
-{
-    if bytes.len() < count {
-        bytes
-    } else {
-        &bytes[..count]
-    }
 }
 
 /// The bytes from a place on: none where it isn't there.

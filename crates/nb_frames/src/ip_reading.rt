@@ -1,7 +1,7 @@
 //! Packets of IP, and of IPv4.
 ghost use Rattle.std.specs.Prelude.{◌≡◌, ◌≤◌, length};
 ghost use Rattle.nb_frames.specs.Carried.{ip_in};
-ghost use Rattle.nb_frames.specs.Ipv4.{header_4, wire_4, place_4, ipv4};
+ghost use Rattle.nb_frames.specs.Ipv4.{wire_4, place_4, ipv4};
 
 use crate::carried::{Hosts, IpPacket, Place};
 use crate::fields::{octets, word};
@@ -29,7 +29,7 @@ fn read_ipv4<'a>(packet: &'a [u8]) -> Result<IpPacket<'a>, Reason>
     requires { 20 ≤ length packet.now }
     ensures { result ≡ ipv4 packet.now }
 {
-    let header = header_len(packet);
+    let header = packet[0] as usize % 16 * 4;
     let wire = wire_len(packet);
     if header < 20 || wire < header {
         return Err(Reason::Bad);
@@ -46,14 +46,6 @@ fn read_ipv4<'a>(packet: &'a [u8]) -> Result<IpPacket<'a>, Reason>
         place: place_of(packet),
         body: Payload::after(packet, wire, header),
     })
-}
-
-/// How many bytes the header has.
-fn header_len(packet: &[u8]) -> usize
-    requires { 20 ≤ length packet.now }
-    ensures { result ≡ header_4 packet.now }
-{
-    packet[0] as usize % 16 * 4
 }
 
 /// How many bytes the packet had on the wire.

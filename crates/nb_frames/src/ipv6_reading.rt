@@ -9,7 +9,7 @@ use crate::reason::Reason;
 use std::net::{IpAddr, Ipv6Addr};
 
 /// Where the extension headers of a packet lead.
-#[derive(Clone, Copy, Debug, PartialEq, Eq)]
+#[derive(Clone, Copy)]
 pub(crate) struct Upper {
     /// The number of the header that begins there.
     pub(crate) protocol: u8,
@@ -106,10 +106,7 @@ fn extent(packet: &[u8], number: u8, at: usize) -> usize
     ensures value { result ≡ extent packet.now number at }
     ensures some { (8 ≤ result) × (result ≤ 2048) }
 {
-    let length = match packet.get(at + 1) {
-        Some(length) => *length as usize,
-        None => 0,
-    };
+    let length = packet.get(at + 1).copied().unwrap_or(0) as usize;
     match number {
         44 => 8,
         51 => 4 * (length + 2),

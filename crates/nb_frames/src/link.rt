@@ -1,24 +1,15 @@
 //! Link layers.
-ghost use Rattle.std.specs.Prelude.{◌≡◌, ◌≤◌, [], length};
-ghost use Rattle.nb_frames.specs.Link.{link_of, is_family, has_family, after_family, network_of, mac_at, sender_of, receiver_of, vlans_of};
+ghost use Rattle.std.specs.Prelude.{◌≡◌, ◌≤◌, []};
+ghost use Rattle.nb_frames.specs.Link.{link_of, is_family, after_family, network_of, mac_at, sender_of, receiver_of, vlans_of};
 
 use crate::contents::Mac;
-use crate::fields::{octets, word};
+use crate::fields::{long, octets, word};
 use crate::reason::Reason;
 use crate::tags::{Layer, TypePlace, layer_after};
 use arrayvec::ArrayVec;
 
-/// Where the type stands of what Ethernet carries.
-const ETHERNET_TYPE: TypePlace = TypePlace { at: 12, next: 14 };
-
-/// The same of a Linux cooked capture.
-const COOKED_TYPE: TypePlace = TypePlace { at: 14, next: 16 };
-
-/// The same of its version 2, in which the type comes first.
-const COOKED_V2_TYPE: TypePlace = TypePlace { at: 0, next: 20 };
-
 /// A link layer that is read.
-#[derive(Clone, Copy, Debug, PartialEq, Eq)]
+#[derive(Clone, Copy)]
 pub(crate) enum Link {
     /// Ethernet.
     Ethernet,
@@ -55,9 +46,9 @@ impl Link {
         ensures network { result.network ≡ network_of self frame.now }
     {
         match self {
-            Link::Ethernet => layer_after(frame, ETHERNET_TYPE),
-            Link::Cooked => layer_after(frame, COOKED_TYPE),
-            Link::CookedV2 => layer_after(frame, COOKED_V2_TYPE),
+            Link::Ethernet => layer_after(frame, TypePlace { at: 12, next: 14 }),
+            Link::Cooked => layer_after(frame, TypePlace { at: 14, next: 16 }),
+            Link::CookedV2 => layer_after(frame, TypePlace { at: 0, next: 20 }),
             Link::Raw => untagged(Ok(0)),
             Link::Loopback => untagged(after_family(frame)),
             Link::Unknown => untagged(Err(Reason::UnknownLink)),
@@ -111,31 +102,22 @@ fn mac_at(frame: &[u8], at: usize) -> Option<Mac>
 }
 
 /// Whether a number is a family of addresses that IP has.
-fn is_family(number: u8) -> bool
+fn is_family(number: u32) -> bool
     ensures { result ≡ is_family number }
 {
     matches!(number, 2 | 10 | 24 | 28 | 30)
 }
 
-/// Where a packet of IP begins after a family of addresses.
+/// Where a packet of IP begins after a family of addresses, which has either byte order.
 fn after_family(frame: &[u8]) -> Result<usize, Reason>
     ensures { result ≡ after_family frame.now }
 {
     if frame.len() < 4 {
         return Err(Reason::Cut);
     }
-    if has_family(frame) {
+    if is_family(long(frame, 0)) || is_family(u32::from_le_bytes(octets(frame, 0))) {
         Ok(4)
     } else {
         Err(Reason::NoIp)
     }
-}
-
-/// Whether the frame begins with a family that IP has, in either byte order.
-fn has_family(frame: &[u8]) -> bool
-    requires { 4 ≤ length frame.now }
-    ensures { result ≡ has_family frame.now }
-{
-    (is_family(frame[0]) && frame[1] == 0 && word(frame, 2) == 0)
-        || (word(frame, 0) == 0 && frame[2] == 0 && is_family(frame[3]))
 }

@@ -2,12 +2,12 @@
 ghost use Rattle.std.specs.Prelude.{◌≡◌, ◌≤◌, ◌<◌, ◌↔◌, length, IsTrue};
 ghost use Rattle.nb_frames.specs.Payload.{rest_after, whole, PayloadValue};
 
-use crate::fields::{behind, front};
+use crate::fields::behind;
 use std::marker::Model;
 
 /// What follows a header, lent from the frame: the bytes that are captured, and how many there were
 /// on the wire.
-#[derive(Debug, Drop)]
+#[derive(Drop)]
 pub struct Payload<'a> {
     captured: &'a [u8],
     on_wire: usize,
@@ -27,7 +27,7 @@ impl<'a> Payload<'a> {
         requires { header ≤ wire }
         ensures { result ≡ rest_after captured.now wire header }
     {
-        let packet = front(captured, wire);
+        let packet = &captured[..wire.min(captured.len())];
         Payload {
             captured: behind(packet, header),
             on_wire: wire - header,

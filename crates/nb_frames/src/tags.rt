@@ -9,7 +9,7 @@ use crate::reason::Reason;
 use arrayvec::ArrayVec;
 
 /// Where a type stands in a frame, and where what it is of begins.
-#[derive(Clone, Copy, Debug, PartialEq, Eq)]
+#[derive(Clone, Copy)]
 pub(crate) struct TypePlace {
     /// Where its two bytes stand.
     pub(crate) at: usize,
@@ -79,7 +79,7 @@ fn follows(frame: &[u8], kind: u16, next: usize) -> Result<usize, Reason>
 }
 
 /// What stands before a packet of IP.
-#[derive(Debug, Drop)]
+#[derive(Drop)]
 pub(crate) struct Layer {
     /// The identifiers of VLANs in the tags, the outermost first.
     pub(crate) vlans: ArrayVec<u16, MAX_TAGS>,

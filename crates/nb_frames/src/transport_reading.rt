@@ -1,6 +1,6 @@
 //! Datagrams of UDP, and segments of TCP.
 ghost use Rattle.std.specs.Prelude.{◌≡◌, ◌≤◌, length};
-ghost use Rattle.nb_frames.specs.Transport.{ports_in, tcp_header, tcp_in, udp_in};
+ghost use Rattle.nb_frames.specs.Transport.{ports_in, tcp_in, udp_in};
 
 use crate::carried::{Carried, Hosts, Ports, TcpSegment, UdpDatagram};
 use crate::fields::{long, word};
@@ -42,7 +42,7 @@ pub(crate) fn read_tcp<'a>(hosts: Hosts, body: &Payload<'a>) -> Carried<'a>
     if bytes.len() < 16 {
         return Carried::Other(Reason::Cut);
     }
-    let header = tcp_header(bytes);
+    let header = (bytes[12] / 16) as usize * 4;
     if header < 20 || wire < header {
         return Carried::Other(Reason::Bad);
     }
@@ -54,14 +54,6 @@ pub(crate) fn read_tcp<'a>(hosts: Hosts, body: &Payload<'a>) -> Carried<'a>
         flags: TcpFlags(bytes[13]),
         payload: Payload::after(bytes, wire, header),
     })
-}
-
-/// How many bytes the header has.
-fn tcp_header(bytes: &[u8]) -> usize
-    requires { 16 ≤ length bytes.now }
-    ensures { result ≡ tcp_header bytes.now }
-{
-    (bytes[12] / 16) as usize * 4
 }
 
 /// The ports with which a header begins.

@@ -8,7 +8,7 @@ use Rattle.nb_pcap.specs.Context.{size_of, content}
 use Rattle.nb_pcap.specs.File.{IsBad, IsPart, IsStuck, IsUnfinished, in_content, in_size, Spells, no_part, one_more, frames_of}
 use Rattle.nb_pcap.specs.Frame.{FrameValue}
 use Rattle.nb_pcap.specs.Section.{Taken}
-use Rattle.nb_pcap.proofs.SizeLemmas.{least_size, least_long, size_same}
+use Rattle.nb_pcap.proofs.SizeLemmas.{ok_is, least_size, least_long, size_same}
 
 -- where two lists that are equal are cut at one length, their parts are equal
 same_parts : (xs ys us vs : List ℕ) → length xs ≡ length ys → xs ++ us ≡ ys ++ vs → (xs ≡ ys) × (us ≡ vs)
@@ -16,9 +16,6 @@ same_parts xs ys us vs long same = (
   sym (take_at xs us (length ys) long) ∙ ap (take (length ys)) same ∙ take_at ys vs (length ys) refl,
   sym (drop_at xs us (length ys) long) ∙ ap (drop (length ys)) same ∙ drop_at ys vs (length ys) refl,
 )
-
-same_size : (m n : ℕ) (r : Result ℕ FileFault) → r ≡ Ok m → r ≡ Ok n → m ≡ n
-same_size m n r is also = cc
 
 same_taken : (s t : Taken Context) (r : Result (Taken Context) FileFault) → r ≡ Ok s → r ≡ Ok t → s ≡ t
 same_taken s t r is also = cc
@@ -31,7 +28,7 @@ one_part : (c : Context) (part other more rest : List ℕ) (s t : Taken Context)
     → (part ≡ other) × (more ≡ rest) × (s ≡ t)
 one_part c part other more rest s t p q same =
     let long : length part ≡ length other =
-    same_size (length part) (length other) (size_of c (part ++ more)) (says_on c part more p.size) (ap (size_of c) same ∙ says_on c other rest q.size) in
+    ok_is (length part) (length other) (size_of c (part ++ more)) (says_on c part more p.size) (ap (size_of c) same ∙ says_on c other rest q.size) in
     let both = same_parts part other more rest long same in
     (both.0, both.1, same_taken s t (content c part) p.gives (ap (content c) both.0 ∙ q.gives))
 
@@ -61,7 +58,7 @@ one_front bytes rest left fs gs last other s a t b = one_way Beginning Beginning
 
 pub unfinished_there : (c : Context) (bytes : List ℕ) → IsUnfinished c bytes → IsStuck c bytes
 unfinished_there c bytes u part more t same p =
-    let size : length part ≡ u.size = same_size (length part) u.size (size_of c bytes) (ap (size_of c) same ∙ says_on c part more p.size) u.says in
+    let size : length part ≡ u.size = ok_is (length part) u.size (size_of c bytes) (ap (size_of c) same ∙ says_on c part more p.size) u.says in
     omega (arith, u.short, size, ap length same, length-append part more)
 
 bad_size : (n : ℕ) (why : FileFault) (r : Result ℕ FileFault) → r ≡ Ok n → r ≡ Err why → ⊥
@@ -73,6 +70,6 @@ bad_content t why r is broken = absurd (cc)
 pub bad_there : (c : Context) (bytes : List ℕ) (why : FileFault) → IsBad c bytes why → IsStuck c bytes
 bad_there c bytes why (in_size not) part more t same p = bad_size (length part) why (size_of c bytes) (ap (size_of c) same ∙ says_on c part more p.size) not
 bad_there c bytes why (in_content size says within not) part more t same p =
-    let is : length part ≡ size = same_size (length part) size (size_of c bytes) (ap (size_of c) same ∙ says_on c part more p.size) says in
+    let is : length part ≡ size = ok_is (length part) size (size_of c bytes) (ap (size_of c) same ∙ says_on c part more p.size) says in
     let front : take size bytes ≡ part = ap (take size) same ∙ take_at part more size is in
     bad_content t why (content c part) p.gives (ap (content c) (sym front) ∙ not)

@@ -1,7 +1,8 @@
 -- What options say, as far as a walk along them has come.
-use Rattle.std.proofs.Common.{◌≡◌, ◌<◌, ◌≤◌, ◌+◌, ◌-◌, ◌∷◌, ℕ, zero, suc, List, [], take, drop, length, Option, Some, None, false, nat_eq, refl, sym, ◌∙◌, ap, arith, option_map}
+use Rattle.std.proofs.Common.{◌≡◌, ◌<◌, ◌≤◌, ◌+◌, ◌-◌, ◌∷◌, ℕ, zero, suc, min, List, [], take, drop, length, Option, Some, None, false, nat_eq, refl, sym, ◌∙◌, ap, arith, option_map}
 use Rattle.std.specs.Int.{w16}
-use Rattle.std.proofs.lemmas.List.{length-drop}
+use Rattle.std.proofs.lemmas.Bool.{ne_eqb}
+use Rattle.std.proofs.lemmas.List.{drop_min, length-drop, take_all}
 use Rattle.nb_pcap.specs.declared.numbers.Order.{Order}
 use Rattle.nb_pcap.specs.Numbers.{number}
 use Rattle.nb_pcap.specs.Options.{OptionValue, SaidValue, noted, padded, said_after, options_within, options_said}
@@ -66,10 +67,6 @@ walked_from (suc n) order bytes left s enough rest long goes_on within =
       rest = sym (one_more order s first others) ∙ ap (option_map (said_after order s)) (sym (first_option n order left long goes_on within)) ∙ rest;
     }
 
-not_zero : (n : ℕ) → (n ≡ 0 → ⊥) → nat_eq n 0 ≡ false
-not_zero zero some = absurd (some refl)
-not_zero (suc n) some = grind arith
-
 -- what a step of the walk found
 pub record IsStep (order : Order) (left : List ℕ) (s : SaidValue) (code size next : ℕ) (value : List ℕ) (t : SaidValue) : Type 0 where
   pub long : 4 ≤ length left
@@ -85,12 +82,10 @@ pub record IsStep (order : Order) (left : List ℕ) (s : SaidValue) (code size n
 pub walked : (order : Order) (bytes left : List ℕ) (s : SaidValue) (code size next : ℕ) (value : List ℕ) (t : SaidValue)
     → IsWalking order bytes left s → IsStep order left s code size next value t → IsWalking order bytes (drop (4 + next) left) t
 walked order bytes left s code size next value t w p =
-    let goes_on : nat_eq (number order w16 left 0) 0 ≡ false = ap (λ (n : ℕ). nat_eq n 0) (sym p.code_is) ∙ not_zero code p.goes_on in
+    let goes_on : nat_eq (number order w16 left 0) 0 ≡ false = ap (λ (n : ℕ). nat_eq n 0) (sym p.code_is) ∙ ne_eqb code 0 p.goes_on in
     rw (p.noted, p.value_is, p.next_is, p.code_is, p.size_is)
     (walked_from w.fuel order bytes left s w.enough w.rest p.long goes_on (omega (arith, p.within, p.size_is)))
 
--- so it does where the next would begin past the end
-pub said_at_end : (order : Order) (bytes left : List ℕ) (s : SaidValue) (code size next : ℕ) (value : List ℕ) (t : SaidValue)
-    → IsWalking order bytes left s → IsStep order left s code size next value t → length left < 4 + next → Some t ≡ options_said order bytes
-said_at_end order bytes left s code size next value t w p past =
-    all_said order bytes (drop (4 + next) left) t (walked order bytes left s code size next value t w p) (omega (arith, past, length-drop (4 + next) left))
+-- the bytes from a place on, as many as there are
+pub rest_from : (n k : ℕ) (xs : List ℕ) → k ≡ min n (length xs) → take (length xs - k) (drop k xs) ≡ drop n xs
+rest_from n k xs is = take_all (length xs - k) (drop k xs) (omega (arith, length-drop k xs)) ∙ ap (λ (i : ℕ). drop i xs) is ∙ drop_min n xs

@@ -1,10 +1,11 @@
 -- A block that is passed over.
-use Rattle.std.proofs.Common.{◌≡◌, ◌⊎◌, inl, inr, ◌<◌, ◌≤◌, ◌+◌, ◌-◌, ◌++◌, ◌∷◌, ◌&&◌, ℕ, suc, min, List, [], take, drop, length, Option, None, Ok, Err, Bool, true, false, not, cond, nat_eq, nat_le, refl, sym, subst, ◌∙◌, ap, append_assoc, arith, eq-eqb}
+use Rattle.std.proofs.Common.{◌≡◌, ◌<◌, ◌≤◌, ◌+◌, ◌-◌, ◌++◌, ◌&&◌, ℕ, min, List, [], take, drop, length, Option, None, Result, Ok, Err, Bool, true, false, not, cond, nat_le, refl, sym, subst, ◌∙◌, ap, append_assoc, arith, eq-eqb}
 use Rattle.std.specs.Int.{w32}
+use Rattle.std.proofs.Math.Seq.{drop-append-add}
+use Rattle.std.proofs.lemmas.Bool.{ne_eqb}
 use Rattle.std.proofs.lemmas.List.{append-nil, length-append, length-drop, length-take-le, take-append-drop, take_at}
-use Rattle.std.specs.Io.KnownBytes.{IsAtEnd}
 use Rattle.nb_streams.specs.Counted.{Counts}
-use Rattle.nb_streams.specs.Room.{RoomValue, handed_out, let_go_of}
+use Rattle.nb_streams.specs.Room.{RoomValue, handed_out}
 use Rattle.nb_streams.specs.declared.limits.TheConstants.{MAX_READ}
 use Rattle.nb_pcap.specs.declared.block.BlockKind.{BlockKind}
 use Rattle.nb_pcap.specs.declared.block.BlockKind.TheVariants.{Section as SectionKind, Interface, Obsolete, Simple, Enhanced, Other}
@@ -14,16 +15,15 @@ use Rattle.nb_pcap.specs.declared.fault.FileFault.{FileFault}
 use Rattle.nb_pcap.specs.declared.fault.FileFault.TheVariants as fault
 use Rattle.nb_pcap.specs.declared.limits.TheConstants.{BLOCK_LENGTH}
 use Rattle.nb_pcap.specs.declared.numbers.Order.{Order}
-use Rattle.nb_pcap.specs.declared.part_reading.Part.TheVariants as part
 use Rattle.nb_pcap.specs.declared.section.Section.{Section}
 use Rattle.nb_pcap.specs.Block.{kind_in, order_for, has_two_lengths, is_read}
 use Rattle.nb_pcap.specs.Context.{size_of, content, passes_over, order_in, in_context}
 use Rattle.nb_pcap.specs.File.{IsUnfinished, IsEnd, in_content}
 use Rattle.nb_pcap.specs.Numbers.{number, in_order}
 use Rattle.nb_pcap.specs.Section.{block_content, content_in, content_of}
-use Rattle.nb_pcap.specs.Steps.{Reads, ReadsPart, Splits, Stops, Took, bad, cut}
-use Rattle.nb_pcap.proofs.SizeLemmas.{size_same, kind_same, four_same, least, block_least}
-use Rattle.nb_pcap.proofs.StepLemmas.{took_none, took_more, stops_longer, stops_unread}
+use Rattle.nb_pcap.specs.Steps.{Reads, Passes, Stops, Took, bad}
+use Rattle.nb_pcap.proofs.SizeLemmas.{either, size_same, kind_same, four_same, least, block_least}
+use Rattle.nb_pcap.proofs.StepLemmas.{took_none, took_more}
 
 -- ---- what it gives
 
@@ -68,7 +68,7 @@ is_passed (Blocks section) rest size says passed =
       long = grind (arith, b.0);
       kind = not_read (kind_in section.order rest) b.1;
       says = says;
-      least_is = block_least section.order rest size says;
+      least_is = block_least section.order rest size (either (length rest) 12) says;
     }
 
 -- the same of all bytes that came
@@ -104,20 +104,9 @@ part_content c rest got part more size p two all size_is lengths =
 
 -- ---- what is said of it
 
-differ : (m n : ℕ) → (m ≡ n → ⊥) → nat_eq m n ≡ false
-differ m n other = grind arith
-
-drop_past : (xs ys : List ℕ) (k : ℕ) → drop (length xs + k) (xs ++ ys) ≡ drop k ys
-drop_past [] ys k =
-    let same : 0 + k ≡ k = omega arith in
-    ap (λ (n : ℕ). drop n ys) same
-drop_past (x ∷ xs) ys k =
-    let same : length (x ∷ xs) + k ≡ suc (length xs + k) = omega arith in
-    ap (λ (n : ℕ). drop n (x ∷ (xs ++ ys))) same ∙ drop_past xs ys k
-
 -- the number in the last four bytes
 number_behind : (order : Order) (xs ys : List ℕ) (at k : ℕ) → at ≡ length xs + k → number order w32 (xs ++ ys) at ≡ number order w32 ys k
-number_behind order xs ys at k is = ap (λ (b : List ℕ). in_order order w32 (take 4 b)) (ap (λ (n : ℕ). drop n (xs ++ ys)) is ∙ drop_past xs ys k)
+number_behind order xs ys at k is = ap (λ (b : List ℕ). in_order order w32 (take 4 b)) (ap (λ (n : ℕ). drop n (xs ++ ys)) is ∙ drop-append-add xs ys k)
 
 -- ---- the loop
 
@@ -126,19 +115,17 @@ pub record IsPassing (old : RoomValue) (before now : Option (List ℕ)) (counts 
   pub got : List ℕ
   pub passed : List ℕ
   pub took : Took got old before now counts later room
-  pub lent : room.lent ≡ []
   pub all : old.rest ++ got ≡ passed ++ room.rest
   pub left_is : length passed + left ≡ size
   pub end : 4 ≤ left
   pub near : length room.rest < left + MAX_READ
 
-pub passing_none : (room : RoomValue) (known : Option (List ℕ)) (counts : Counts) (size : ℕ) → room.lent ≡ [] → 12 ≤ size → length room.rest < size
+pub passing_none : (room : RoomValue) (known : Option (List ℕ)) (counts : Counts) (size : ℕ) → 12 ≤ size → length room.rest < size
     → IsPassing room known known counts counts size size room
-passing_none room known counts size lent some short = record {
+passing_none room known counts size some short = record {
   got = [];
   passed = [];
   took = took_none room room known counts refl refl;
-  lent = lent;
   all = append-nil room.rest;
   left_is = omega arith;
   end = omega (arith, some);
@@ -146,83 +133,55 @@ passing_none room known counts size lent some short = record {
 }
 
 -- some of those held are passed over, and the room reads again
-pub passing_on : (n : ℕ) (old mid let_go new : RoomValue) (before now left_bytes : Option (List ℕ)) (counts midway later : Counts) (size left k : ℕ)
+pub passing_on : (r : Result ℕ FileFault) (old mid out new : RoomValue) (before now after : Option (List ℕ)) (counts midway later : Counts) (size left k : ℕ)
     → IsPassing old before now counts midway size left mid → length mid.rest < left → k ≡ min (length mid.rest) (left - 4)
-    → let_go ≡ let_go_of (handed_out k mid) → Reads let_go now left_bytes midway later (Ok n) new
-    → IsPassing old before left_bytes counts later size (left - k) new
-passing_on n old mid let_go new before now left_bytes counts midway later size left k p short k_is is r =
-    let rest : let_go.rest ≡ drop k mid.rest = ap (λ (v : RoomValue). v.rest) is in
+    → out ≡ handed_out k mid → (reads : Reads out now after midway later r new) → length reads.got ≤ MAX_READ
+    → IsPassing old before after counts later size (left - k) new × (length new.rest ≡ length mid.rest - k + length reads.got)
+passing_on r old mid out new before now after counts midway later size left k p short k_is is reads few_came =
+    let rest : out.rest ≡ drop k mid.rest = ap (λ (v : RoomValue). v.rest) is in
     let few : k ≤ left - 4 = omega (arith, k_is) in
     let front : length (take k mid.rest) ≡ k = length-take-le k mid.rest (omega (arith, k_is)) in
-    let held : length (drop k mid.rest) < 4 = omega (arith, k_is, short, p.end, length-drop k mid.rest) in
-    let came : List ℕ = r.got in
-    record {
-      got = p.got ++ came;
-      passed = p.passed ++ take k mid.rest;
-      took = took_more p.got came old mid new before now left_bytes counts midway later p.took
-          (took_more [] came mid let_go new now now left_bytes midway midway later
-          (took_none mid let_go now midway (ap (λ (v : RoomValue). v.taken) is) (ap (λ (v : RoomValue). v.most) is)) r.took);
-      lent = r.lent;
-      all = sym (append_assoc old.rest p.got came) ∙ ap (λ (b : List ℕ). b ++ came) p.all
-          ∙ ap (λ (b : List ℕ). (p.passed ++ b) ++ came) (sym (take-append-drop k mid.rest)) ∙ ap (λ (b : List ℕ). b ++ came) (sym (append_assoc p.passed (take k mid.rest) (drop k mid.rest)))
-          ∙ append_assoc (p.passed ++ take k mid.rest) (drop k mid.rest) came
-          ∙ ap (λ (b : List ℕ). (p.passed ++ take k mid.rest) ++ b) (sym (r.rest ∙ ap (λ (b : List ℕ). b ++ came) rest));
-      left_is = omega (arith, length-append p.passed (take k mid.rest), front, p.left_is, few, p.end);
-      end = omega (arith, few, p.end);
-      near = omega (arith, ap length r.rest, ap length rest, length-append let_go.rest came, r.once.0, r.once.2, held, few, p.end);
-    }
+    let came : List ℕ = reads.got in
+    let new_is : new.rest ≡ drop k mid.rest ++ came = reads.rest ∙ ap (λ (b : List ℕ). b ++ came) rest in
+    let size_is : length new.rest ≡ length mid.rest - k + length came = omega (arith, ap length new_is, length-append (drop k mid.rest) came, length-drop k mid.rest) in (
+      record {
+        got = p.got ++ came;
+        passed = p.passed ++ take k mid.rest;
+        took = took_more p.got came old mid new before now after counts midway later p.took
+            (took_more [] came mid out new now now after midway midway later
+            (took_none mid out now midway (ap (λ (v : RoomValue). v.taken) is) (ap (λ (v : RoomValue). v.most) is)) reads.took);
+        all = sym (append_assoc old.rest p.got came) ∙ ap (λ (b : List ℕ). b ++ came) p.all
+            ∙ ap (λ (b : List ℕ). (p.passed ++ b) ++ came) (sym (take-append-drop k mid.rest)) ∙ ap (λ (b : List ℕ). b ++ came) (sym (append_assoc p.passed (take k mid.rest) (drop k mid.rest)))
+            ∙ append_assoc (p.passed ++ take k mid.rest) (drop k mid.rest) came
+            ∙ ap (λ (b : List ℕ). (p.passed ++ take k mid.rest) ++ b) (sym new_is);
+        left_is = omega (arith, length-append p.passed (take k mid.rest), front, p.left_is, few, p.end);
+        end = omega (arith, few, p.end);
+        near = omega (arith, size_is, few_came, k_is, short, p.end);
+      },
+      size_is,
+    )
 
 -- few of those held are kept
-pub passing_few : (mid let_go : RoomValue) (left k : ℕ) → length mid.rest < left → 4 ≤ left → k ≡ min (length mid.rest) (left - 4) → let_go ≡ let_go_of (handed_out k mid)
-    → length let_go.rest < 4
-passing_few mid let_go left k short end k_is is = omega (arith, k_is, short, end, ap (λ (v : RoomValue). length v.rest) is, length-drop k mid.rest)
-
--- each read brings the end nearer
-pub passing_nearer : (n : ℕ) (mid let_go new : RoomValue) (now left_bytes : Option (List ℕ)) (midway later : Counts) (left k : ℕ) → length mid.rest < left
-    → k ≤ length mid.rest → let_go ≡ let_go_of (handed_out k mid) → Reads let_go now left_bytes midway later (Ok n) new → (n ≡ 0 → ⊥)
-    → (left - k) - length new.rest < left - length mid.rest
-passing_nearer n mid let_go new now left_bytes midway later left k short within is r some =
-    omega (arith, short, within, some, r.once.0, ap length r.rest, length-append let_go.rest r.got, ap (λ (v : RoomValue). length v.rest) is, length-drop k mid.rest)
+pub passing_few : (mid out : RoomValue) (left k : ℕ) → length mid.rest < left → 4 ≤ left → k ≡ min (length mid.rest) (left - 4) → out ≡ handed_out k mid
+    → length out.rest < 4
+passing_few mid out left k short end k_is is = omega (arith, k_is, short, end, ap (λ (v : RoomValue). length v.rest) is, length-drop k mid.rest)
 
 -- ---- how it ends
 
--- no byte came, and the block has more
-block_fails : (c : Context) (old mid let_go new : RoomValue) (before now left_bytes : Option (List ℕ)) (counts midway later : Counts) (size left k : ℕ) (why : FileFault)
-    (got : List ℕ) → IsPassed c old.rest size → IsPassing old before now counts midway size left mid → length mid.rest < left
-    → let_go ≡ let_go_of (handed_out k mid) → length got ≡ 0 → Took got let_go now left_bytes midway later new
-    → ((bytes : List ℕ) → IsUnfinished c bytes → (IsEnd c bytes → ⊥) → Stops c bytes left_bytes midway later new why)
-    → ReadsPart c old before left_bytes counts later (Err why) c new
-block_fails c old mid let_go new before now left_bytes counts midway later size left k why got p w short is none took stops =
-    let bytes : List ℕ = old.rest ++ (w.got ++ got) in
-    let long : length bytes < size =
-    omega (arith, short, none, w.left_is, ap length w.all, length-append old.rest w.got, length-append w.passed mid.rest, length-append w.got got, length-append old.rest (w.got ++ got)) in
+-- the block has more bytes, and no more come
+pub passing_fails : (c : Context) (old new : RoomValue) (before after : Option (List ℕ)) (counts later : Counts) (size left : ℕ) (why : FileFault)
+    → IsPassed c old.rest size → IsPassing old before after counts later size left new → length new.rest < left
+    → ((bytes : List ℕ) → IsUnfinished c bytes → (IsEnd c bytes → ⊥) → Stops c bytes after counts later new why)
+    → Passes c old before after counts later (Err why) new
+passing_fails c old new before after counts later size left why p w short stops =
+    let bytes : List ℕ = old.rest ++ w.got in
+    let long : length bytes < size = omega (arith, short, w.left_is, ap length w.all, length-append w.passed new.rest) in
     record {
-      got = w.got ++ got;
-      took = took_more w.got got old mid new before now left_bytes counts midway later w.took
-          (took_more [] got mid let_go new now now left_bytes midway midway later
-          (took_none mid let_go now midway (ap (λ (v : RoomValue). v.taken) is) (ap (λ (v : RoomValue). v.most) is)) took);
-      gives = (
-        stops_longer c bytes left_bytes counts midway later new why w.took.grow
-            (stops bytes (record { size = size; says = came_says c old.rest (w.got ++ got) size p; short = long })
-            (λ e. omega (arith, ap length e.nothing, length-append old.rest (w.got ++ got), p.long))),
-        refl,
-      );
+      got = w.got;
+      took = w.took;
+      passes = stops bytes (record { size = size; says = came_says c old.rest w.got size p; short = long })
+          (λ e. omega (arith, ap length e.nothing, length-append old.rest w.got, p.long));
     }
-
-pub passing_unread : (c : Context) (old mid let_go new : RoomValue) (before now left_bytes : Option (List ℕ)) (counts midway later : Counts) (size left k : ℕ) (why : FileFault)
-    → IsPassed c old.rest size → IsPassing old before now counts midway size left mid → length mid.rest < left
-    → let_go ≡ let_go_of (handed_out k mid) → Reads let_go now left_bytes midway later (Err why) new → ReadsPart c old before left_bytes counts later (Err why) c new
-passing_unread c old mid let_go new before now left_bytes counts midway later size left k why p w short is r =
-    block_fails c old mid let_go new before now left_bytes counts midway later size left k why r.got p w short is (ap length r.once.0) r.took
-    (λ bytes u not_end. stops_unread c bytes left_bytes midway later new why u r.once.1)
-
-pub passing_cut : (c : Context) (n : ℕ) (old mid let_go new : RoomValue) (before now left_bytes : Option (List ℕ)) (counts midway later : Counts) (size left k : ℕ)
-    → IsPassed c old.rest size → IsPassing old before now counts midway size left mid → length mid.rest < left
-    → let_go ≡ let_go_of (handed_out k mid) → Reads let_go now left_bytes midway later (Ok n) new → n ≡ 0
-    → ReadsPart c old before left_bytes counts later (Err fault.Cut) c new
-passing_cut c n old mid let_go new before now left_bytes counts midway later size left k p w short is r none =
-    block_fails c old mid let_go new before now left_bytes counts midway later size left k fault.Cut r.got p w short is (sym r.once.0 ∙ none) r.took
-    (λ bytes u not_end. cut u (r.once.1 none) not_end)
 
 -- IsBlock: this is the block, and the number at its end
 record IsBlock (old : RoomValue) (got part rest : List ℕ) (order : Order) (size last : ℕ) : Type 0 where
@@ -247,7 +206,7 @@ block_there old mid before now counts later order size left w within =
 -- its second length is its length, and it is passed over whole
 pub block_passed : (c : Context) (old mid new : RoomValue) (before now : Option (List ℕ)) (counts later : Counts) (size left : ℕ) (p : IsPassed c old.rest size)
     → IsPassing old before now counts later size left mid → left ≤ length mid.rest → number p.section.order w32 mid.rest (left - 4) ≡ size
-    → new ≡ handed_out left mid → ReadsPart c old before now counts later (Ok part.Other) c new
+    → new ≡ handed_out left mid → Passes c old before now counts later (Ok tt) new
 block_passed c old mid new before now counts later size left p w within same is =
     let b = block_there old mid before now counts later p.section.order size left w within in
     let piece : List ℕ = w.passed ++ take left mid.rest in
@@ -256,38 +215,33 @@ block_passed c old mid new before now counts later size left p w within same is 
     rw is (record {
       got = w.got;
       took = record { consumes = w.took.consumes; taken = w.took.taken; most = w.took.most; within = w.took.within; grow = w.took.grow };
-      gives = (
+      passes = (
         piece,
+        b.all,
         record {
-          all = b.all;
-          is_part = record {
-            size = (part_says c old.rest w.got piece (drop left mid.rest) size p b.all b.size_is).0;
-            gives = part_content c old.rest w.got piece (drop left mid.rest) size p true b.all b.size_is two;
-          };
-          near = omega (arith, w.near, within, length-drop left mid.rest);
+          size = (part_says c old.rest w.got piece (drop left mid.rest) size p b.all b.size_is).0;
+          gives = part_content c old.rest w.got piece (drop left mid.rest) size p true b.all b.size_is two;
         },
+        omega (arith, w.near, within, length-drop left mid.rest),
       );
     })
 
 -- its second length is another
 pub block_bad : (c : Context) (old mid : RoomValue) (before now : Option (List ℕ)) (counts later : Counts) (size left : ℕ) (p : IsPassed c old.rest size)
     → IsPassing old before now counts later size left mid → left ≤ length mid.rest → (number p.section.order w32 mid.rest (left - 4) ≡ size → ⊥)
-    → ReadsPart c old before now counts later (Err fault.BadBlock) c mid
+    → Passes c old before now counts later (Err fault.BadBlock) mid
 block_bad c old mid before now counts later size left p w within other =
     let b = block_there old mid before now counts later p.section.order size left w within in
     let piece : List ℕ = w.passed ++ take left mid.rest in
     let two : has_two_lengths p.section.order piece ≡ false =
-    differ (number p.section.order w32 piece (length piece - 4)) (length piece) (λ h. other (sym b.last_is ∙ h ∙ b.size_is)) in
+    ne_eqb (number p.section.order w32 piece (length piece - 4)) (length piece) (λ h. other (sym b.last_is ∙ h ∙ b.size_is)) in
     let there : size ≤ length (old.rest ++ w.got) = omega (arith, ap length b.all, length-append piece (drop left mid.rest), b.size_is) in
     let front : take size (old.rest ++ w.got) ≡ piece = ap (take size) b.all ∙ take_at piece (drop left mid.rest) size b.size_is in
     record {
       got = w.got;
       took = w.took;
-      gives = (
-        bad fault.BadBlock (in_content size (came_says c old.rest w.got size p) there
-            (ap (content c) front ∙ part_content c old.rest w.got piece (drop left mid.rest) size p false b.all b.size_is two)),
-        refl,
-      );
+      passes = bad fault.BadBlock (in_content size (came_says c old.rest w.got size p) there
+          (ap (content c) front ∙ part_content c old.rest w.got piece (drop left mid.rest) size p false b.all b.size_is two));
     }
 
 -- the number that was read, in the block's order

@@ -1,6 +1,7 @@
 -- Blocks of pcapng (draft-ietf-opsawg-pcapng): each has its type 4, its length 4, its body, and its length again 4. The type of a
--- Section Header is the same in both orders of bytes, and its body begins with a magic number that tells the order of its section.
-use Rattle.std.specs.Prelude.{ℕ, ◌-◌, ◌%◌, ◌&&◌, ◌||◌, Bool, true, false, not, cond, nat_eq, nat_lt, List, length, Option, Some, None, Result, Ok, Err}
+-- Section Header is the same in both orders of bytes, and its body begins with a magic number that tells the order of its section. The
+-- version after that and the section's length aren't judged (our choice).
+use Rattle.std.specs.Prelude.{ℕ, ◌-◌, ◌%◌, ◌&&◌, ◌||◌, Bool, true, false, not, cond, nat_eq, nat_lt, List, take, length, Option, Some, None, Result, Ok, Err}
 use Rattle.std.specs.Int.{w32}
 use Rattle.nb_pcap.specs.declared.block.BlockKind.{BlockKind}
 use Rattle.nb_pcap.specs.declared.block.BlockKind.TheVariants.{Section, Interface, Obsolete, Simple, Enhanced, Other}
@@ -30,10 +31,10 @@ least_length Simple = SIMPLE_LENGTH
 least_length Enhanced = PACKET_LENGTH
 least_length Other = BLOCK_LENGTH
 
--- the order of a section's numbers, by the magic number of its header
+-- the order of a section's numbers, by the magic number of its header, which is read low byte first
 abbrev pub order_marked : List ℕ → Option Order
 order_marked bytes =
-    cond (nat_eq (number Little w32 bytes 8) 0x1a2b3c4d) (Some Little) (cond (nat_eq (number Big w32 bytes 8) 0x1a2b3c4d) (Some Big) None)
+    cond (nat_eq (number Little w32 bytes 8) 0x1a2b3c4d) (Some Little) (cond (nat_eq (number Little w32 bytes 8) 0x4d3c2b1a) (Some Big) None)
 
 -- what the block is that begins with these bytes, in a section of this order
 abbrev pub kind_in : Order → List ℕ → BlockKind
@@ -59,9 +60,13 @@ abbrev pub sized_in : BlockKind → Option Order → List ℕ → Result ℕ Fil
 sized_in kind None bytes = Err UnknownForm
 sized_in kind (Some own) bytes = sized kind (number own w32 bytes 4)
 
--- how many bytes the block has that these bytes begin, in a section of this order: 12 at least, and then as many as they say
+-- how many bytes a block has that begins with these twelve bytes, in a section of this order
+abbrev pub size_said : Order → List ℕ → Result ℕ FileFault
+size_said order front = sized_in (kind_in order front) (block_order order front) front
+
+-- how many bytes the block has that these bytes begin: 12 at least, and then as many as those say
 abbrev pub block_size : Order → List ℕ → Result ℕ FileFault
-block_size order bytes = cond (nat_lt (length bytes) BLOCK_LENGTH) (Ok BLOCK_LENGTH) (sized_in (kind_in order bytes) (block_order order bytes) bytes)
+block_size order bytes = cond (nat_lt (length bytes) BLOCK_LENGTH) (Ok BLOCK_LENGTH) (size_said order (take BLOCK_LENGTH bytes))
 
 -- whether the second length of a block is its length
 abbrev pub has_two_lengths : Order → List ℕ → Bool

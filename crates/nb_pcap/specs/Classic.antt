@@ -4,7 +4,7 @@
 -- 4 + 4 that are of no account, the most bytes of a frame 4, and LINKTYPE in the low 16 bits of 4. A record has seconds 4, their
 -- fraction 4, how many bytes were captured 4, how many bytes the frame had 4, and the captured bytes. The version isn't judged
 -- (our choice).
-use Rattle.std.specs.Prelude.{ℕ, ◌+◌, ◌*◌, ◌%◌, ◌||◌, Bool, cond, nat_eq, nat_lt, List, length, Option, Some, None, Result, Ok, Err, is_some, option_map}
+use Rattle.std.specs.Prelude.{ℕ, ◌+◌, ◌*◌, ◌%◌, cond, nat_eq, nat_lt, List, length, Option, Some, None, Result, Ok, Err}
 use Rattle.std.specs.Int.{w32}
 use Rattle.nb_pcap.specs.declared.fault.FileFault.{FileFault}
 use Rattle.nb_pcap.specs.declared.fault.FileFault.TheVariants.{TooLong}
@@ -17,27 +17,24 @@ use Rattle.nb_pcap.specs.declared.numbers.Order.TheVariants.{Little, Big}
 use Rattle.nb_pcap.specs.declared.limits.TheConstants.{RECORD_LENGTH, MAX_CAPTURED}
 use Rattle.nb_pcap.specs.Numbers.{number}
 
--- the unit that a magic number stands for
-abbrev pub unit_of : ℕ → Option TimeUnit
-unit_of magic = cond (nat_eq magic 0xa1b2c3d4) (Some Micro) (cond (nat_eq magic 0xa1b23c4d) (Some Nano) None)
+-- what a magic number says that is read low byte first: the order of all numbers, and the unit of times
+abbrev pub marks : ℕ → Option (Order × TimeUnit)
+marks magic =
+    cond (nat_eq magic 0xa1b2c3d4) (Some (Little, Micro)) (cond (nat_eq magic 0xa1b23c4d) (Some (Little, Nano))
+    (cond (nat_eq magic 0xd4c3b2a1) (Some (Big, Micro)) (cond (nat_eq magic 0x4d3cb2a1) (Some (Big, Nano)) None)))
 
--- whether bytes begin with such a magic number, in either order
-abbrev pub is_classic : List ℕ → Bool
-is_classic bytes = is_some (unit_of (number Little w32 bytes 0)) || is_some (unit_of (number Big w32 bytes 0))
+-- the same of the magic number that bytes begin with
+abbrev pub marks_in : List ℕ → Option (Order × TimeUnit)
+marks_in bytes = marks (number Little w32 bytes 0)
 
--- what a header says whose numbers have this order
-abbrev pub form_in : Order → List ℕ → Option Form
-form_in order bytes =
-    option_map (λ unit. record { order = order; unit = unit; link = number order w32 bytes 20 % 65536 }) (unit_of (number order w32 bytes 0))
-
--- what is said in the first order, else in the other
-abbrev pub first_form : Option Form → Option Form → Option Form
-first_form (Some form) other = Some form
-first_form None other = other
+-- what a header says with these marks
+abbrev pub form_marked : List ℕ → Option (Order × TimeUnit) → Option Form
+form_marked bytes None = None
+form_marked bytes (Some (order, unit)) = Some (record { order = order; unit = unit; link = number order w32 bytes 20 % 65536 })
 
 -- what a header says
 abbrev pub form_of : List ℕ → Option Form
-form_of bytes = first_form (form_in Little bytes) (form_in Big bytes)
+form_of bytes = form_marked bytes (marks_in bytes)
 
 -- nanoseconds of a fraction in this unit
 abbrev pub nanoseconds : TimeUnit → ℕ → ℕ

@@ -1,6 +1,6 @@
 -- The parts of a file, one after another, and what each is read by: at the beginning the header of a classic file or a Section
 -- Header, and then records in the form that the header says, or blocks in the section that is theirs.
-use Rattle.std.specs.Prelude.{ℕ, ◌&&◌, [], Bool, false, not, cond, nat_eq, nat_le, nat_lt, List, length, Option, Some, None, Result, Ok, Err}
+use Rattle.std.specs.Prelude.{ℕ, ◌&&◌, [], Bool, false, not, cond, nat_eq, nat_le, nat_lt, List, length, Option, Some, None, Result, Ok, Err, is_some}
 use Rattle.std.specs.Int.{w32}
 use Rattle.nb_pcap.specs.declared.context.Context.{Context}
 use Rattle.nb_pcap.specs.declared.context.Context.TheVariants.{Beginning, Records, Blocks}
@@ -12,7 +12,7 @@ use Rattle.nb_pcap.specs.declared.numbers.Order.{Order}
 use Rattle.nb_pcap.specs.declared.numbers.Order.TheVariants.{Little}
 use Rattle.nb_pcap.specs.declared.section.Section.{Section}
 use Rattle.nb_pcap.specs.Block.{kind_in, block_size, is_read}
-use Rattle.nb_pcap.specs.Classic.{is_classic, form_of, record_size, record_head}
+use Rattle.nb_pcap.specs.Classic.{marks_in, form_of, record_size, record_head}
 use Rattle.nb_pcap.specs.Numbers.{number}
 use Rattle.nb_pcap.specs.Section.{Taken, block_content}
 
@@ -20,13 +20,11 @@ use Rattle.nb_pcap.specs.Section.{Taken, block_content}
 abbrev pub no_section : Section
 no_section = record { order = Little; interfaces = []; earlier = 0 }
 
--- whether bytes begin with the type of a Section Header
-abbrev pub is_section : List ℕ → Bool
-is_section bytes = nat_eq (number Little w32 bytes 0) 0x0a0d0d0a
-
--- how many bytes the first part has
+-- how many bytes the first part has: a magic number says that it is the header of a classic file, or the type of a Section Header
 abbrev pub first_size : List ℕ → Result ℕ FileFault
-first_size bytes = cond (is_classic bytes) (Ok HEADER_LENGTH) (cond (is_section bytes) (block_size no_section.order bytes) (Err UnknownForm))
+first_size bytes =
+    cond (is_some (marks_in bytes)) (Ok HEADER_LENGTH)
+    (cond (nat_eq (number Little w32 bytes 0) 0x0a0d0d0a) (block_size Little bytes) (Err UnknownForm))
 
 -- size_of context bytes: how many bytes the part has at least that these bytes begin, as far as they say; or why there is none
 abbrev pub size_of : Context → List ℕ → Result ℕ FileFault
@@ -51,13 +49,13 @@ abbrev pub in_context : Result (Taken Section) FileFault → Result (Taken Conte
 in_context (Ok taken) = Ok (record { head = taken.head; next = Blocks taken.next })
 in_context (Err fault) = Err fault
 
--- what a header gives that says this
-abbrev pub opened : Option Form → Result (Taken Context) FileFault
-opened None = Err UnknownForm
-opened (Some form) = Ok (record { head = None; next = Records form })
+-- what the first part gives, by what the header of a classic file says in it
+abbrev pub first_content : Option Form → List ℕ → Result (Taken Context) FileFault
+first_content (Some form) part = Ok (record { head = None; next = Records form })
+first_content None part = in_context (block_content no_section part)
 
 -- content context part: what a whole part gives, and what the parts after it are read by; or why it isn't good
 abbrev pub content : Context → List ℕ → Result (Taken Context) FileFault
-content Beginning part = cond (is_classic part) (opened (form_of part)) (in_context (block_content no_section part))
+content Beginning part = first_content (form_of part) part
 content (Records form) part = Ok (record { head = Some (record_head form part); next = Records form })
 content (Blocks section) part = in_context (block_content section part)

@@ -5,7 +5,7 @@
 -- were captured 4, how many the frame had 4, the captured bytes, what pads them, and options; that of an obsolete Packet the same,
 -- but for the number of its interface 2, and 2 of no account. A Simple Packet is of the section's first interface, and has how
 -- many bytes the frame had 4, and as many of them as that interface allows. Places count from the block's first byte.
-use Rattle.std.specs.Prelude.{◌≡◌, ℕ, ◌+◌, ◌-◌, ◌*◌, ◌^◌, ◌&&◌, ◌++◌, ◌∷◌, [], not, cond, min, nat_eq, nat_lt, nat_le, List, take, drop, length, slice_get, Option, Some, None, Result, Ok, Err, option_map}
+use Rattle.std.specs.Prelude.{◌≡◌, ℕ, ◌+◌, ◌-◌, ◌*◌, ◌^◌, ◌++◌, ◌∷◌, [], cond, min, nat_eq, nat_lt, nat_le, List, take, drop, length, slice_get, Option, Some, None, Result, Ok, Err, option_map}
 use Rattle.std.specs.Int.{w16, w32}
 use Rattle.nb_pcap.specs.declared.block.BlockKind.{BlockKind}
 use Rattle.nb_pcap.specs.declared.block.BlockKind.TheVariants as kind
@@ -25,9 +25,9 @@ use Rattle.nb_pcap.specs.Options.{SaidValue, options_said}
 abbrev pub fitting : Head → ℕ → Result Head FileFault
 fitting head room = cond (nat_lt MAX_CAPTURED head.captured) (Err TooLong) (cond (nat_lt room head.captured) (Err BadBlock) (Ok head))
 
--- how many bytes of a frame a Simple Packet has
+-- how many bytes of a frame a Simple Packet has; a snap length of 0 is no limit
 abbrev pub captured_of : ℕ → ℕ → ℕ
-captured_of snap original = cond (not (nat_eq snap 0) && nat_lt snap original) snap original
+captured_of snap original = cond (nat_eq snap 0) original (min snap original)
 
 -- where the frame of a Simple Packet of this interface stands
 abbrev pub simple_of : Option Interface → Section → List ℕ → Result Head FileFault

@@ -5,7 +5,7 @@ ghost use Rattle.nb_pcap.specs.Clock.{ticks_a_second, time_of};
 use crate::limits::SECOND;
 
 /// The clock of an interface.
-#[derive(Clone, Copy, Debug, PartialEq, Eq)]
+#[derive(Clone, Copy)]
 pub struct Clock {
     /// How many of its units a second has; none where that is 2^128 or more.
     pub ticks: Option<u128>,

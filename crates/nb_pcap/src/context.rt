@@ -1,14 +1,12 @@
 //! What the parts of a file are read by.
-ghost use Rattle.std.specs.Prelude.{◌≡◌, ◌≤◌, Ok, true, false, length};
-ghost use Rattle.nb_pcap.specs.declared.limits.TheConstants.{MAGIC_LENGTH};
-ghost use Rattle.nb_pcap.specs.declared.context.Context.TheVariants.{Beginning};
-ghost use Rattle.nb_pcap.specs.Context.{size_of, first_size, content, passes_over, order_in, no_section};
+ghost use Rattle.std.specs.Prelude.{◌≡◌, Ok, true, false, length};
+ghost use Rattle.nb_pcap.specs.Context.{size_of, content, passes_over, order_in};
 ghost use Rattle.nb_pcap.specs.File.{IsEnd};
 ghost use Rattle.nb_pcap.specs.Section.{Gives};
 
 use crate::block::{BlockKind, block_size, kind_in};
 use crate::fault::FileFault;
-use crate::form::{Form, form_of, is_classic, record_head, record_size};
+use crate::form::{Form, form_of, marks_in, record_head, record_size};
 use crate::frame::Head;
 use crate::limits::{BLOCK_LENGTH, HEADER_LENGTH, MAGIC_LENGTH};
 use crate::numbers::{Order, number_32};
@@ -17,7 +15,7 @@ use nb_streams::Items;
 use std::alloc::Global;
 
 /// What the parts of a file are read by, which are its header, records or blocks.
-#[derive(Debug, Drop)]
+#[derive(Drop)]
 pub enum Context {
     /// Nothing came yet.
     Beginning,
@@ -27,36 +25,7 @@ pub enum Context {
     Blocks(Section),
 }
 
-/// The section before the first one.
-fn no_section(alloc: Global) -> Section
-    ensures { result ≡ no_section }
-{
-    Section {
-        order: Order::Little,
-        interfaces: Items::from_vec(Vec::new(alloc)),
-        earlier: 0,
-    }
-}
-
-/// How many bytes the first part of a file has at least, as far as the bytes at its front say.
-fn first_size(bytes: &[u8]) -> Result<usize, FileFault>
-    requires { MAGIC_LENGTH ≤ length bytes.now }
-    ensures { result ≡ first_size bytes.now }
-{
-    if is_classic(bytes) {
-        return Ok(HEADER_LENGTH);
-    }
-    if number_32(Order::Little, bytes, 0) == 0x0a0d_0d0a {
-        return block_size(Order::Little, bytes);
-    }
-    Err(FileFault::UnknownForm)
-}
-
 /// How many bytes the part has at least that these bytes begin, as far as they say.
-///
-/// # Errors
-///
-/// [`FileFault::UnknownForm`], [`FileFault::TooLong`] and [`FileFault::BadBlock`].
 pub fn size_of(context: &Context, bytes: &[u8]) -> Result<usize, FileFault>
     ensures { result ≡ size_of context.now bytes.now }
 {
@@ -65,7 +34,13 @@ pub fn size_of(context: &Context, bytes: &[u8]) -> Result<usize, FileFault>
             if bytes.len() < MAGIC_LENGTH {
                 return Ok(MAGIC_LENGTH);
             }
-            first_size(bytes)
+            if marks_in(bytes).is_some() {
+                return Ok(HEADER_LENGTH);
+            }
+            if number_32(Order::Little, bytes, 0) != 0x0a0d_0d0a {
+                return Err(FileFault::UnknownForm);
+            }
+            block_size(Order::Little, bytes)
         }
         Context::Records(form) => record_size(*form, bytes),
         Context::Blocks(section) => block_size(section.order, bytes),
@@ -77,8 +52,7 @@ pub fn passes_over(context: &Context, bytes: &[u8]) -> bool
     ensures { result ≡ passes_over context.now bytes.now }
 {
     match context {
-        Context::Beginning => false,
-        Context::Records(_) => false,
+        Context::Beginning | Context::Records(_) => false,
         Context::Blocks(section) => {
             BLOCK_LENGTH <= bytes.len() && matches!(kind_in(section.order, bytes), BlockKind::Other)
         }
@@ -108,40 +82,29 @@ pub fn is_end(context: &Context, rest: &[u8]) -> bool
     }
 }
 
-/// Takes in the first part of a file, which is as long as it says.
-fn take_first(alloc: Global, context: &mut Context, part: &[u8]) -> Result<Option<Head>, FileFault>
-    requires beginning { context.old ≡ Beginning }
-    requires whole { size_of Beginning part.now ≡ Ok (length part.now) }
-    ensures { Gives (content context.old part.now) result context.old context.new }
-{
-    if is_classic(part) {
-        return match form_of(part) {
-            Some(form) => {
-                *context = Context::Records(form);
-                Ok(None)
-            }
-            None => Err(FileFault::UnknownForm),
-        };
-    }
-    let mut section = no_section(alloc);
-    let found = take_block(alloc, &mut section, part)?;
-    *context = Context::Blocks(section);
-    Ok(found)
-}
-
-/// Takes in a part of a file, which is as long as it says, and answers where a frame stands in it.
-///
-/// # Errors
-///
-/// [`FileFault::UnknownForm`], [`FileFault::BadBlock`], [`FileFault::TooLong`],
-/// [`FileFault::NoInterface`], [`FileFault::TooManyInterfaces`] and [`FileFault::NoMemory`]. The
-/// context is then as it was.
+/// Takes in a part of a file, which is as long as it says, and answers where a frame stands in it. At
+/// a fault the context is as it was.
 pub fn take_in(alloc: Global, context: &mut Context, part: &[u8]) -> Result<Option<Head>, FileFault>
     requires { size_of context.old part.now ≡ Ok (length part.now) }
     ensures { Gives (content context.old part.now) result context.old context.new }
 {
     match context {
-        Context::Beginning => take_first(alloc, context, part),
+        Context::Beginning => match form_of(part) {
+            Some(form) => {
+                *context = Context::Records(form);
+                Ok(None)
+            }
+            None => {
+                let mut section = Section {
+                    order: Order::Little,
+                    interfaces: Items::from_vec(Vec::new(alloc)),
+                    earlier: 0,
+                };
+                let found = take_block(alloc, &mut section, part)?;
+                *context = Context::Blocks(section);
+                Ok(found)
+            }
+        },
         Context::Records(form) => Ok(Some(record_head(*form, part))),
         Context::Blocks(section) => take_block(alloc, section, part),
     }

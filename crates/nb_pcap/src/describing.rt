@@ -1,6 +1,5 @@
 //! Interface Descriptions.
-ghost use Rattle.std.specs.Prelude.{◌≡◌, ◌≤◌, ◌-◌, ℕ, List, IfOk, length, drop, take, option_map};
-ghost use Rattle.std.specs.Borrow.{Bor};
+ghost use Rattle.std.specs.Prelude.{◌≡◌, ◌≤◌, IfOk, length};
 ghost use Rattle.nb_pcap.specs.declared.limits.TheConstants.{INTERFACE_LENGTH};
 ghost use Rattle.nb_pcap.specs.Options.{said_value};
 ghost use Rattle.nb_pcap.specs.Section.{Gives, described, interface_said};
@@ -15,24 +14,6 @@ use crate::section::{Interface, Section};
 use nb_streams::{Bytes, NoMemory};
 use std::alloc::Global;
 
-/// The options of an Interface Description.
-fn options_of(block: &[u8]) -> &[u8]
-    requires { INTERFACE_LENGTH ≤ length block.now }
-    ensures { result.now ≡ take (length block.now - INTERFACE_LENGTH) (drop 16 block.now) }
-{
-    &block[16..block.len() - 4]
-}
-
-/// A name, in memory of its own.
-fn own_name(alloc: Global, name: Option<&[u8]>) -> Result<Option<Bytes>, NoMemory>
-    ensures { IfOk result (λ kept. kept ≡ option_map (λ (n : Bor (List ℕ)). n.now) name.entry) }
-{
-    match name {
-        Some(name) => Ok(Some(Bytes::copy(alloc, name)?)),
-        None => Ok(None),
-    }
-}
-
 /// The interface that a block describes whose options say this.
 fn interface_of(
     alloc: Global,
@@ -43,7 +24,10 @@ fn interface_of(
     requires { INTERFACE_LENGTH ≤ length block.now }
     ensures { IfOk result (λ i. i ≡ interface_said order block.now (said_value said.entry)) }
 {
-    let name = own_name(alloc, said.name)?;
+    let name = match said.name {
+        Some(name) => Some(Bytes::copy(alloc, name)?),
+        None => None,
+    };
     Ok(Interface {
         link: number_16(order, block, 8),
         snap: number_32(order, block, 12),
@@ -55,12 +39,7 @@ fn interface_of(
     })
 }
 
-/// Adds the interface that a block describes to its section.
-///
-/// # Errors
-///
-/// [`FileFault::TooManyInterfaces`], [`FileFault::BadBlock`] where an option runs past the block's
-/// end, and [`FileFault::NoMemory`]. The section is then as it was.
+/// Adds the interface that a block describes to its section, which at a fault is as it was.
 pub fn describe(
     alloc: Global,
     section: &mut Section,
@@ -72,7 +51,7 @@ pub fn describe(
     if MAX_INTERFACES <= section.interfaces.as_slice().len() {
         return Err(FileFault::TooManyInterfaces);
     }
-    match options_said(section.order, options_of(block)) {
+    match options_said(section.order, &block[16..block.len() - 4]) {
         Some(said) => match interface_of(alloc, section.order, block, said) {
             Ok(interface) => match section.interfaces.push(interface) {
                 Ok(()) => Ok(None),

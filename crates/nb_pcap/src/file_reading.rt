@@ -5,21 +5,19 @@ ghost use Rattle.std.specs.Io.BufRead.{Rests};
 ghost use Rattle.nb_streams.specs.declared.limits.TheConstants.{MAX_READ};
 ghost use Rattle.nb_pcap.specs.contracts.file_reading.FileRoom.{the_row};
 ghost use Rattle.nb_pcap.specs.declared.limits.TheConstants.{MAX_ITEM};
-ghost use Rattle.nb_pcap.specs.Frame.{value_of, frame_at};
-ghost use Rattle.nb_pcap.specs.Seeking.{SeeksFrame};
 ghost use Rattle.nb_pcap.specs.Reading.{nothing_read, ReadsFrame, lent_frame, answered, frame_lent, last_of};
 
 use crate::context::Context;
 use crate::fault::FileFault;
 use crate::frame::{Frame, Head, captured_in, interface_in_file, name_in};
-use crate::part_reading::{Part, PartRoom, take_part};
+use crate::part_reading::{PartRoom, find_frame};
 use nb_streams::{Counted, Room};
 use std::alloc::Global;
 use std::io::Read;
 use std::marker::Model;
 
 /// How a room for a file stands to it.
-#[derive(Clone, Copy, Debug, PartialEq, Eq)]
+#[derive(Clone, Copy)]
 pub enum Standing {
     /// More may come.
     Reading,
@@ -27,41 +25,6 @@ pub enum Standing {
     Ended,
     /// The file can't be read further.
     Stopped(FileFault),
-}
-
-/// Reads to the next part that gives a frame, which the room then has handed out, and answers where
-/// the frame stands in it; `None` where there is no further one. The place is where the rest of the
-/// file begins.
-///
-/// # Errors
-///
-/// Those of [`take_part`]. The place is then where the part begins that can't be read.
-fn find_frame<R: Read>(
-    alloc: Global,
-    room: &mut PartRoom,
-    context: &mut Context,
-    place: &mut u64,
-    reader: &mut Counted<R>,
-) -> Result<Option<Head>, FileFault>
-    requires place_is { place.old + length room.old.rest ≡ room.old.taken }
-    requires within { room.old.taken ≤ room.old.most }
-    requires near { length room.old.rest ≤ MAX_READ }
-    ensures { SeeksFrame context.old place.old room.old (R.remaining reader.old.inner)
-        (R.remaining reader.new.inner) reader.old.counts reader.new.counts result context.new
-        place.new room.new }
-{
-    'parts: loop {
-        room.let_go();
-        match take_part(alloc, room, context, reader) {
-            Ok(Part::Frame(head)) => {
-                *place = room.place();
-                return Ok(Some(head));
-            }
-            Ok(Part::Other) => *place = room.place(),
-            Ok(Part::End) => return Ok(None),
-            Err(fault) => return Err(fault),
-        }
-    }
 }
 
 /// Room for one file: the frame handed out last, what was read after it, and what that is read by.
@@ -142,27 +105,16 @@ impl FileRoom {
     pub fn last_frame(&self) -> Option<Frame<'_>>
         ensures { frame_lent result ≡ last_of self.now }
     {
-        match self.last {
-            Some(head) => Some(self.frame(head)),
-            None => None,
-        }
-    }
-
-    /// The frame that stands so in the part that was handed out last.
-    fn frame(&self, head: Head) -> Frame<'_>
-        ensures value { value_of result ≡ frame_at self.now.context self.now.room.lent head }
-        ensures number { result.number ≡ self.now.frames }
-    {
-        let part = self.room.lent();
-        Frame {
+        let head = self.last?;
+        Some(Frame {
             number: self.frames,
             interface: interface_in_file(&self.context, head.interface),
             name: name_in(&self.context, head.interface),
             link: head.link,
             time: head.time,
-            bytes: captured_in(part, head.start, head.captured),
+            bytes: captured_in(self.room.lent(), head.start, head.captured),
             original: head.original,
-        }
+        })
     }
 }
 

@@ -1,7 +1,7 @@
 //! The header of a classic file, and its records.
 ghost use Rattle.std.specs.Prelude.{◌≡◌, ◌≤◌, length};
 ghost use Rattle.nb_pcap.specs.declared.limits.TheConstants.{MAGIC_LENGTH, HEADER_LENGTH, RECORD_LENGTH};
-ghost use Rattle.nb_pcap.specs.Classic.{unit_of, is_classic, form_in, form_of, record_time, record_head, record_size};
+ghost use Rattle.nb_pcap.specs.Classic.{marks_in, form_of, record_head, record_size};
 
 use crate::fault::FileFault;
 use crate::frame::Head;
@@ -9,7 +9,7 @@ use crate::limits::{MAX_CAPTURED, RECORD_LENGTH, SECOND};
 use crate::numbers::{Order, number_32};
 
 /// The unit of the fraction of a time.
-#[derive(Clone, Copy, Debug, PartialEq, Eq)]
+#[derive(Clone, Copy)]
 pub enum Unit {
     /// A millionth of a second.
     Micro,
@@ -18,7 +18,7 @@ pub enum Unit {
 }
 
 /// What the header of a classic file says.
-#[derive(Clone, Copy, Debug, PartialEq, Eq)]
+#[derive(Clone, Copy)]
 pub struct Form {
     /// The order of the bytes of its numbers.
     pub order: Order,
@@ -28,56 +28,28 @@ pub struct Form {
     pub link: u16,
 }
 
-/// The unit that a magic number stands for.
-fn unit_of(magic: u32) -> Option<Unit>
-    ensures { result ≡ unit_of magic }
+/// What the magic number of a classic file says, where bytes begin with one.
+pub fn marks_in(bytes: &[u8]) -> Option<(Order, Unit)>
+    requires { MAGIC_LENGTH ≤ length bytes.now }
+    ensures { result ≡ marks_in bytes.now }
 {
-    match magic {
-        0xa1b2_c3d4 => Some(Unit::Micro),
-        0xa1b2_3c4d => Some(Unit::Nano),
+    match number_32(Order::Little, bytes, 0) {
+        0xa1b2_c3d4 => Some((Order::Little, Unit::Micro)),
+        0xa1b2_3c4d => Some((Order::Little, Unit::Nano)),
+        0xd4c3_b2a1 => Some((Order::Big, Unit::Micro)),
+        0x4d3c_b2a1 => Some((Order::Big, Unit::Nano)),
         _ => None,
     }
 }
 
-/// Whether bytes begin with a magic number of classic files.
-pub fn is_classic(bytes: &[u8]) -> bool
-    requires { MAGIC_LENGTH ≤ length bytes.now }
-    ensures { result ≡ is_classic bytes.now }
-{
-    unit_of(number_32(Order::Little, bytes, 0)).is_some()
-        || unit_of(number_32(Order::Big, bytes, 0)).is_some()
-}
-
-/// What the header at the front of bytes says in this order.
-fn form_in(order: Order, bytes: &[u8]) -> Option<Form>
-    requires { HEADER_LENGTH ≤ length bytes.now }
-    ensures { result ≡ form_in order bytes.now }
-{
-    let unit = unit_of(number_32(order, bytes, 0))?;
-    let link = (number_32(order, bytes, 20) % 0x1_0000) as u16;
-    Some(Form { order, unit, link })
-}
-
-/// What the header at the front of bytes says.
+/// What the header of a classic file says, where bytes begin with one.
 pub fn form_of(bytes: &[u8]) -> Option<Form>
     requires { HEADER_LENGTH ≤ length bytes.now }
     ensures { result ≡ form_of bytes.now }
 {
-    match form_in(Order::Little, bytes) {
-        Some(form) => Some(form),
-        None => form_in(Order::Big, bytes),
-    }
-}
-
-/// The time of a record, in nanoseconds since 1970.
-fn record_time(unit: Unit, seconds: u32, fraction: u32) -> u64
-    ensures { result ≡ record_time unit seconds fraction }
-{
-    let nanoseconds = match unit {
-        Unit::Micro => fraction as u64 * 1_000,
-        Unit::Nano => fraction as u64,
-    };
-    seconds as u64 * SECOND + nanoseconds
+    let (order, unit) = marks_in(bytes)?;
+    let link = (number_32(order, bytes, 20) % 0x1_0000) as u16;
+    Some(Form { order, unit, link })
 }
 
 /// Where the frame of a record stands, and what the record says of it.
@@ -85,12 +57,15 @@ pub fn record_head(form: Form, bytes: &[u8]) -> Head
     requires { RECORD_LENGTH ≤ length bytes.now }
     ensures { result ≡ record_head form bytes.now }
 {
-    let seconds = number_32(form.order, bytes, 0);
-    let fraction = number_32(form.order, bytes, 4);
+    let fraction = number_32(form.order, bytes, 4) as u64;
+    let nanoseconds = match form.unit {
+        Unit::Micro => fraction * 1_000,
+        Unit::Nano => fraction,
+    };
     Head {
         interface: 0,
         link: form.link,
-        time: Some(record_time(form.unit, seconds, fraction)),
+        time: Some(number_32(form.order, bytes, 0) as u64 * SECOND + nanoseconds),
         start: RECORD_LENGTH,
         captured: number_32(form.order, bytes, 8) as usize,
         original: number_32(form.order, bytes, 12),
@@ -98,10 +73,6 @@ pub fn record_head(form: Form, bytes: &[u8]) -> Head
 }
 
 /// How many bytes the record has at least that these bytes begin, as far as they say.
-///
-/// # Errors
-///
-/// [`FileFault::TooLong`].
 pub fn record_size(form: Form, bytes: &[u8]) -> Result<usize, FileFault>
     ensures { result ≡ record_size form bytes.now }
 {

@@ -28,7 +28,7 @@ pub struct Frame<'a> {
 }
 
 /// Where a frame stands in a record or a block, and what that says of it.
-#[derive(Clone, Copy, Debug, PartialEq, Eq)]
+#[derive(Clone, Copy)]
 pub struct Head {
     /// The number of its interface in its section, the first being 0.
     pub interface: usize,
@@ -49,8 +49,7 @@ pub(crate) fn interface_in_file(context: &Context, which: usize) -> u64
     ensures { result ≡ interface_in_file context.now which }
 {
     match context {
-        Context::Beginning => which as u64,
-        Context::Records(_) => which as u64,
+        Context::Beginning | Context::Records(_) => which as u64,
         Context::Blocks(section) => section.earlier.saturating_add(which as u64),
     }
 }
@@ -60,39 +59,18 @@ pub(crate) fn name_in(context: &Context, which: usize) -> Option<&[u8]>
     ensures { option_map (λ (n : Bor (List ℕ)). n.now) result ≡ name_in context.now which }
 {
     match context {
-        Context::Beginning => None,
-        Context::Records(_) => None,
-        Context::Blocks(section) => match section.interfaces.as_slice().get(which) {
-            Some(interface) => match &interface.name {
-                Some(name) => Some(name.as_slice()),
-                None => None,
-            },
+        Context::Beginning | Context::Records(_) => None,
+        Context::Blocks(section) => match &section.interfaces.as_slice().get(which)?.name {
+            Some(name) => Some(name.as_slice()),
             None => None,
         },
     }
 }
 
-/// The bytes from a place on, as many as there are.
-fn behind(bytes: &[u8], start: usize) -> &[u8]
-    ensures { result.now ≡ drop start bytes.now }
-{
-    &bytes[start.min(bytes.len())..]
-}
-
-/// The first bytes, as many as there are of so many.
-pub(crate) fn first_of(bytes: &[u8], count: usize) -> &[u8]
-    ensures { result.now ≡ take count bytes.now }
-{
-    if count <= bytes.len() {
-        &bytes[..count]
-    } else {
-        bytes
-    }
-}
-
-/// So many bytes of a part, from a place on.
+/// So many bytes of a part, from a place on, as far as there are.
 pub(crate) fn captured_in(part: &[u8], start: usize, count: usize) -> &[u8]
     ensures { result.now ≡ take count (drop start part.now) }
 {
-    first_of(behind(part, start), count)
+    let bytes = &part[start.min(part.len())..];
+    &bytes[..count.min(bytes.len())]
 }

@@ -6,7 +6,8 @@ ghost use Rattle.nb_pcap.specs.declared.context.Context.TheVariants.{Beginning};
 ghost use Rattle.nb_pcap.specs.declared.fault.FileFault.{FileFault};
 ghost use Rattle.nb_pcap.specs.declared.form.Unit.TheVariants.{Micro, Nano};
 ghost use Rattle.nb_pcap.specs.declared.limits.TheConstants.{MAGIC_LENGTH, HEADER_LENGTH, RECORD_LENGTH, BLOCK_LENGTH, SECTION_LENGTH, INTERFACE_LENGTH, PACKET_LENGTH, SIMPLE_LENGTH, OPTION_LENGTH, MAX_CAPTURED, MAX_ITEM, MAX_INTERFACES, MAX_NAME};
-ghost use Rattle.nb_pcap.specs.Classic.{record_time};
+ghost use Rattle.nb_pcap.specs.declared.numbers.Order.TheVariants.{Little, Big};
+ghost use Rattle.nb_pcap.specs.Classic.{marks_in, record_time};
 ghost use Rattle.nb_pcap.specs.Clock.{ticks_a_second, time_of};
 ghost use Rattle.nb_pcap.specs.File.{Spells, IsBad, IsStuck, IsUnfinished};
 ghost use Rattle.nb_pcap.specs.Frame.{FrameValue};
@@ -58,9 +59,13 @@ pub fn no_part_at_a_fault()
         → IsStuck context bytes }
 {}
 
-/// The lengths and limits.
+/// Magic numbers of classic files, in either order of bytes; lengths and limits.
 pub fn numbers()
-    ensures { (MAGIC_LENGTH ≡ 4) × (HEADER_LENGTH ≡ 24) × (RECORD_LENGTH ≡ 16)
+    ensures micro { (marks_in (0xa1 ∷ 0xb2 ∷ 0xc3 ∷ 0xd4 ∷ []) ≡ Some (Big, Micro))
+        × (marks_in (0xd4 ∷ 0xc3 ∷ 0xb2 ∷ 0xa1 ∷ []) ≡ Some (Little, Micro)) }
+    ensures nano { (marks_in (0xa1 ∷ 0xb2 ∷ 0x3c ∷ 0x4d ∷ []) ≡ Some (Big, Nano))
+        × (marks_in (0x4d ∷ 0x3c ∷ 0xb2 ∷ 0xa1 ∷ []) ≡ Some (Little, Nano)) }
+    ensures limits { (MAGIC_LENGTH ≡ 4) × (HEADER_LENGTH ≡ 24) × (RECORD_LENGTH ≡ 16)
         × (BLOCK_LENGTH ≡ 12) × (SECTION_LENGTH ≡ 28) × (INTERFACE_LENGTH ≡ 20)
         × (PACKET_LENGTH ≡ 32) × (SIMPLE_LENGTH ≡ 16) × (OPTION_LENGTH ≡ 4)
         × (MAX_CAPTURED ≡ 262144) × (MAX_ITEM ≡ 393216) × (MAX_INTERFACES ≡ 65536)

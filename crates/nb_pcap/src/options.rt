@@ -1,6 +1,5 @@
 //! The options of an interface.
-ghost use Rattle.std.specs.Prelude.{◌≡◌, ◌≤◌, ◌+◌, drop, length, take, option_map};
-ghost use Rattle.nb_pcap.specs.declared.limits.TheConstants.{OPTION_LENGTH};
+ghost use Rattle.std.specs.Prelude.{◌≡◌, ◌≤◌, option_map};
 ghost use Rattle.nb_pcap.specs.Options.{noted, padded, said_value, options_said};
 
 use crate::limits::{MAX_NAME, OPTION_LENGTH};
@@ -50,22 +49,6 @@ fn padded(size: usize) -> usize
     (size + 3) / 4 * 4
 }
 
-/// The value of the option at the front of bytes, which has so many.
-fn value_of(bytes: &[u8], size: usize) -> &[u8]
-    requires { OPTION_LENGTH + size ≤ length bytes.now }
-    ensures { result.now ≡ take size (drop OPTION_LENGTH bytes.now) }
-{
-    &bytes[OPTION_LENGTH..OPTION_LENGTH + size]
-}
-
-/// What follows the first bytes.
-fn behind(bytes: &[u8], count: usize) -> &[u8]
-    requires { count ≤ length bytes.now }
-    ensures { result.now ≡ drop count bytes.now }
-{
-    &bytes[count..]
-}
-
 /// What options say, one after another, up to the one that ends them or to the end of the bytes;
 /// none where one runs past that. The resolution is a millionth of a second, and times begin in
 /// 1970, where none says otherwise; of options of one code the last counts.
@@ -87,12 +70,14 @@ pub fn options_said<'a>(order: Order, bytes: &'a [u8]) -> Option<Said<'a>>
         if left.len() - OPTION_LENGTH < size {
             return None;
         }
-        said = noted(order, said, code, value_of(left, size));
+        said = noted(
+            order,
+            said,
+            code,
+            &left[OPTION_LENGTH..OPTION_LENGTH + size],
+        );
         let next = OPTION_LENGTH + padded(size);
-        if left.len() < next {
-            return Some(said);
-        }
-        left = behind(left, next);
+        left = &left[next.min(left.len())..];
     }
     Some(said)
 }

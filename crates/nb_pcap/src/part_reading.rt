@@ -1,14 +1,14 @@
-//! Reading the next part of a file, as its bytes come.
-ghost use Rattle.std.specs.Prelude.{◌≡◌, ◌<◌, ◌≤◌, ◌+◌, [], ℕ, List, Option, Ok, true, length};
-ghost use Rattle.nb_streams.specs.Counted.{Counts};
+//! Reading from part to part of a file, as its bytes come.
+ghost use Rattle.std.specs.Prelude.{◌≡◌, ◌<◌, ◌≤◌, ◌+◌, Ok, true, length};
 ghost use Rattle.nb_streams.specs.declared.limits.TheConstants.{MAX_READ};
 ghost use Rattle.nb_pcap.specs.declared.limits.TheConstants.{MAX_ITEM};
 ghost use Rattle.nb_pcap.specs.Context.{size_of, passes_over};
-ghost use Rattle.nb_pcap.specs.Steps.{Reads, ReadsPart};
+ghost use Rattle.nb_pcap.specs.Seeking.{SeeksFrame};
+ghost use Rattle.nb_pcap.specs.Steps.{Reads, Passes};
 
 use crate::context::{Context, is_end, order_in, passes_over, size_of, take_in};
 use crate::fault::FileFault;
-use crate::frame::{Head, first_of};
+use crate::frame::Head;
 use crate::limits::MAX_ITEM;
 use crate::numbers::number_32;
 use nb_streams::{Counted, Room, RoomFault};
@@ -19,21 +19,9 @@ use std::io::Read;
 /// [`MAX_ITEM`](crate::limits::MAX_ITEM) bytes.
 pub type PartRoom = Room<MAX_ITEM>;
 
-/// What a part gave.
-#[derive(Clone, Copy, Debug, PartialEq, Eq)]
-pub enum Part {
-    /// A frame, which stands so in the part that was handed out.
-    Frame(Head),
-    /// No frame.
-    Other,
-    /// There is no further part.
-    End,
-}
-
 /// Reads once, and answers how many bytes came: none at the end.
 fn read_once<R: Read>(room: &mut PartRoom, reader: &mut Counted<R>) -> Result<usize, FileFault>
-    requires lent { room.old.lent ≡ [] }
-    requires few { length room.old.rest ≤ MAX_ITEM }
+    requires { length room.old.rest ≤ MAX_ITEM }
     ensures { Reads room.old (R.remaining reader.old.inner) (R.remaining reader.new.inner)
         reader.old.counts reader.new.counts result room.new }
 {
@@ -47,47 +35,23 @@ fn read_once<R: Read>(room: &mut PartRoom, reader: &mut Counted<R>) -> Result<us
     }
 }
 
-/// Takes in the next part, which is held, and hands it out.
-fn take_whole(
-    alloc: Global,
-    room: &mut PartRoom,
-    context: &mut Context,
-    size: usize,
-) -> Result<Part, FileFault>
-    requires within { size ≤ length room.old.rest }
-    requires says { size_of context.old room.old.rest ≡ Ok size }
-    requires ahead { length room.old.rest ≤ size + MAX_READ }
-    ensures { (known : Option (List ℕ)) (counts : Counts) → ReadsPart context.old room.old known
-        known counts counts result context.new room.new }
-{
-    let found = take_in(alloc, context, first_of(room.rest(), size))?;
-    room.hand_out(size);
-    match found {
-        Some(head) => Ok(Part::Frame(head)),
-        None => Ok(Part::Other),
-    }
-}
-
 /// Passes over the next part, a block of so many bytes that isn't read, without keeping it.
 fn pass_over<R: Read>(
     room: &mut PartRoom,
     context: &Context,
     reader: &mut Counted<R>,
     size: usize,
-) -> Result<Part, FileFault>
-    requires lent { room.old.lent ≡ [] }
+) -> Result<(), FileFault>
     requires says { size_of context.now room.old.rest ≡ Ok size }
     requires short { length room.old.rest < size }
     requires passed { passes_over context.now room.old.rest ≡ true }
-    ensures { ReadsPart context.now room.old (R.remaining reader.old.inner)
-        (R.remaining reader.new.inner) reader.old.counts reader.new.counts result context.now
-        room.new }
+    ensures { Passes context.now room.old (R.remaining reader.old.inner)
+        (R.remaining reader.new.inner) reader.old.counts reader.new.counts result room.new }
 {
     let mut left = size;
     'pass: while room.rest().len() < left {
         let passed = room.rest().len().min(left - 4);
         room.hand_out(passed);
-        room.let_go();
         left -= passed;
         if read_once(room, reader)? == 0 {
             return Err(FileFault::Cut);
@@ -97,39 +61,48 @@ fn pass_over<R: Read>(
         return Err(FileFault::BadBlock);
     }
     room.hand_out(left);
-    Ok(Part::Other)
+    Ok(())
 }
 
-/// Takes in the next part, or passes over it, or says that there is none.
-///
-/// # Errors
-///
-/// [`FileFault::Cut`], and those of [`take_in`] and [`read_once`].
-pub fn take_part<R: Read>(
+/// Reads to the next part that gives a frame, which the room then has handed out, and answers where
+/// the frame stands in it; `None` where there is no further one. The place is where the rest of the
+/// file begins, and at a fault where the part begins that can't be read.
+pub fn find_frame<R: Read>(
     alloc: Global,
     room: &mut PartRoom,
     context: &mut Context,
+    place: &mut u64,
     reader: &mut Counted<R>,
-) -> Result<Part, FileFault>
-    requires lent { room.old.lent ≡ [] }
+) -> Result<Option<Head>, FileFault>
+    requires place_is { place.old + length room.old.rest ≡ room.old.taken }
+    requires within { room.old.taken ≤ room.old.most }
     requires near { length room.old.rest ≤ MAX_READ }
-    ensures { ReadsPart context.old room.old (R.remaining reader.old.inner)
+    ensures { SeeksFrame context.old place.old room.old (R.remaining reader.old.inner)
         (R.remaining reader.new.inner) reader.old.counts reader.new.counts result context.new
-        room.new }
+        place.new room.new }
 {
-    'part: loop {
+    'parts: loop {
         let size = size_of(context, room.rest())?;
         if size <= room.rest().len() {
-            return take_whole(alloc, room, context, size);
+            let found = take_in(alloc, context, &room.rest()[..size])?;
+            room.hand_out(size);
+            *place = room.place();
+            match found {
+                Some(head) => return Ok(Some(head)),
+                None => continue 'parts,
+            }
         }
         if passes_over(context, room.rest()) {
-            return pass_over(room, context, reader, size);
+            pass_over(room, context, reader, size)?;
+            *place = room.place();
+            continue 'parts;
         }
         if read_once(room, reader)? == 0 {
-            if is_end(context, room.rest()) {
-                return Ok(Part::End);
-            }
-            return Err(FileFault::Cut);
+            return if is_end(context, room.rest()) {
+                Ok(None)
+            } else {
+                Err(FileFault::Cut)
+            };
         }
     }
 }

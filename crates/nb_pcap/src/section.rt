@@ -1,10 +1,10 @@
 //! Sections of pcapng files: their interfaces, and the packets of these.
 ghost use Rattle.std.specs.Prelude.{◌≡◌, ◌≤◌, Ok, length};
 ghost use Rattle.nb_pcap.specs.declared.limits.TheConstants.{PACKET_LENGTH, SIMPLE_LENGTH};
-ghost use Rattle.nb_pcap.specs.Block.{block_size, least_length};
-ghost use Rattle.nb_pcap.specs.Section.{captured_of, simple_head, timed_head, fitting, section_after, content_of, block_content, Gives};
+ghost use Rattle.nb_pcap.specs.Block.{block_size};
+ghost use Rattle.nb_pcap.specs.Section.{simple_head, timed_head, fitting, block_content, Gives};
 
-use crate::block::{BlockKind, block_order, has_two_lengths, kind_in};
+use crate::block::{BlockKind, block_order, kind_in};
 use crate::clock::{Clock, time_at};
 use crate::describing::describe;
 use crate::fault::FileFault;
@@ -15,7 +15,7 @@ use nb_streams::{Bytes, Items};
 use std::alloc::Global;
 
 /// An interface, as its section describes it.
-#[derive(Debug, Drop)]
+#[derive(Drop)]
 pub struct Interface {
     /// What its frames begin with (LINKTYPE).
     pub link: u16,
@@ -28,7 +28,7 @@ pub struct Interface {
 }
 
 /// A section of a file.
-#[derive(Debug, Drop)]
+#[derive(Drop)]
 pub struct Section {
     /// The order of the bytes of its numbers.
     pub order: Order,
@@ -52,17 +52,6 @@ fn fitting(head: Head, room: usize) -> Result<Head, FileFault>
     Ok(head)
 }
 
-/// How many bytes of a frame a Simple Packet has.
-fn captured_of(snap: u32, original: u32) -> u32
-    ensures { result ≡ captured_of snap original }
-{
-    if snap != 0 && snap < original {
-        snap
-    } else {
-        original
-    }
-}
-
 /// Where the frame of a Simple Packet stands.
 fn simple_head(section: &Section, block: &[u8]) -> Result<Head, FileFault>
     requires { SIMPLE_LENGTH ≤ length block.now }
@@ -71,12 +60,16 @@ fn simple_head(section: &Section, block: &[u8]) -> Result<Head, FileFault>
     match section.interfaces.as_slice().get(0) {
         Some(interface) => {
             let original = number_32(section.order, block, 8);
+            let captured = match interface.snap {
+                0 => original,
+                snap => snap.min(original),
+            };
             let head = Head {
                 interface: 0,
                 link: interface.link,
                 time: None,
                 start: 12,
-                captured: captured_of(interface.snap, original) as usize,
+                captured: captured as usize,
                 original,
             };
             fitting(head, block.len() - SIMPLE_LENGTH)
@@ -108,32 +101,33 @@ fn timed_head(section: &Section, which: usize, block: &[u8]) -> Result<Head, Fil
     }
 }
 
-/// The section after another, with this order.
-fn section_after(alloc: Global, section: &Section, order: Order) -> Section
-    ensures { result ≡ section_after section.now order }
-{
-    let interfaces = section.interfaces.as_slice().len() as u64;
-    Section {
-        order,
-        interfaces: Items::from_vec(Vec::new(alloc)),
-        earlier: section.earlier.saturating_add(interfaces),
-    }
-}
-
-/// Takes in a whole block of this kind, the order of whose numbers is this.
-fn take_kind(
+/// Takes in a whole block, which is as long as it says, and answers where a frame stands in it. At a
+/// fault the section is as it was.
+#[tactic(auto, using(crate::proofs::SizeLemmas::whole_block))]
+pub fn take_block(
     alloc: Global,
-    kind: BlockKind,
-    order: Order,
     section: &mut Section,
     block: &[u8],
 ) -> Result<Option<Head>, FileFault>
-    requires { least_length kind ≤ length block.now }
-    ensures { Gives (content_of kind order section.old block.now) result section.old section.new }
+    requires { block_size section.old.order block.now ≡ Ok (length block.now) }
+    ensures { Gives (block_content section.old block.now) result section.old section.new }
 {
+    let kind = kind_in(section.order, block);
+    let order = match block_order(section.order, block) {
+        Some(order) => order,
+        None => return Err(FileFault::UnknownForm),
+    };
+    if number_32(order, block, block.len() - 4) as usize != block.len() {
+        return Err(FileFault::BadBlock);
+    }
     match kind {
         BlockKind::Section => {
-            *section = section_after(alloc, section, order);
+            let interfaces = section.interfaces.as_slice().len() as u64;
+            *section = Section {
+                order,
+                interfaces: Items::from_vec(Vec::new(alloc)),
+                earlier: section.earlier.saturating_add(interfaces),
+            };
             Ok(None)
         }
         BlockKind::Interface => describe(alloc, section, block),
@@ -147,32 +141,5 @@ fn take_kind(
             Ok(Some(timed_head(section, which, block)?))
         }
         BlockKind::Other => Ok(None),
-    }
-}
-
-/// Takes in a whole block, which is as long as it says, and answers where a frame stands in it.
-///
-/// # Errors
-///
-/// [`FileFault::UnknownForm`], [`FileFault::BadBlock`], [`FileFault::TooLong`],
-/// [`FileFault::NoInterface`], [`FileFault::TooManyInterfaces`] and [`FileFault::NoMemory`]. The
-/// section is then as it was.
-pub fn take_block(
-    alloc: Global,
-    section: &mut Section,
-    block: &[u8],
-) -> Result<Option<Head>, FileFault>
-    requires { block_size section.old.order block.now ≡ Ok (length block.now) }
-    ensures { Gives (block_content section.old block.now) result section.old section.new }
-{
-    let kind = kind_in(section.order, block);
-    match block_order(section.order, block) {
-        Some(order) => {
-            if !has_two_lengths(order, block) {
-                return Err(FileFault::BadBlock);
-            }
-            take_kind(alloc, kind, order, section, block)
-        }
-        None => Err(FileFault::UnknownForm),
     }
 }

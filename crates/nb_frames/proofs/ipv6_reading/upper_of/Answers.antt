@@ -1,5 +1,5 @@
-use Rattle.std.proofs.Common.{◌≡◌, ◌+◌, ℕ, suc, true, false, length, ap, refl, arith}
-use Rattle.nb_frames.specs.Ipv6.{is_extension, extent}
+use Rattle.std.proofs.Common.{◌≡◌, ◌+◌, ℕ, true, false, length, ap, refl, arith}
+use Rattle.nb_frames.specs.Ipv6.{is_extension}
 use Rattle.nb_frames.proofs.HeaderLemmas.{led_here, led_past, led_to_cut, led_fragment, led_on}
 use Rattle.nb_frames.proofs.ipv6_reading.upper_of.Goals as goal
 

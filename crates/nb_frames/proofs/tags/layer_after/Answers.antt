@@ -1,6 +1,6 @@
 use Rattle.std.proofs.Common.{◌≡◌, ◌%◌, true, false, length, arith, ap, sym, ◌∙◌, ℕ}
 use Rattle.nb_frames.specs.Fields.{word_at}
-use Rattle.nb_frames.specs.Tags.{is_tag, follows, network_at}
+use Rattle.nb_frames.specs.Tags.{is_tag, follows}
 use Rattle.nb_frames.proofs.TagsLemmas.{cut_there, type_there, tag_there, tag_passed, vlan_passed, whole_tag, no_tag, cut_tag, all_vlans, last_vlans}
 use Rattle.nb_frames.proofs.tags.layer_after.Goals as goal
 

@@ -2,7 +2,7 @@ use Rattle.nb_pcap.proofs.StepLemmas.{read_full, read_ok, read_failed, read_no_m
 use Rattle.nb_pcap.proofs.part_reading.read_once.Goals as goal
 
 pub returns-then-is_full : goal.returns-then-is_full
-returns-then-is_full g c = read_full _ _ _ c.requires.lent (c.is_full.ensures.0 c.if-is_full.true)
+returns-then-is_full g c = read_full _ _ _ (c.is_full.ensures.0 c.if-is_full.true)
 
 pub returns-in-Ok : goal.returns-in-Ok
 returns-in-Ok g c = read_ok _ _ _ _ _ _ _ c.in-Ok.ensures

@@ -1,6 +1,6 @@
-use Rattle.std.proofs.Common.{◌-◌}
+use Rattle.std.proofs.Common.{◌+◌, ◌-◌}
 use Rattle.nb_pcap.proofs.SeekLemmas.{IsSeeking}
-use Rattle.nb_pcap.proofs.file_reading.find_frame.Given as goal
+use Rattle.nb_pcap.proofs.part_reading.find_frame.Given as goal
 
 abbrev pub invariant-parts : goal.invariant-parts
 invariant-parts g l =
@@ -8,4 +8,4 @@ invariant-parts g l =
     l.context l.place l.room
 
 abbrev pub decreases-parts : goal.decreases-parts
-decreases-parts g l = l.room.most - l.place
+decreases-parts g l = (l.room.most - l.place) + (l.room.most - l.room.taken)

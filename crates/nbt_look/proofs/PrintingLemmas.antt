@@ -103,11 +103,6 @@ unread_more xs ys s known all is fresh i t at =
     let grown : ys ≡ xs ++ unread known ∷ [] = is ∙ ap (λ (x : SourceValue). xs ++ x ∷ []) fresh in
     unread_at xs known i t all (sym (ap (λ (zs : List SourceValue). slice_get zs i) grown) ∙ at)
 
--- nothing is held of a file of which nothing was read
-unread_held : (o : Option SourceValue) → ((s : SourceValue) → o ≡ Some s → s ≡ unread s.known) → held_of o ≡ []
-unread_held None is = refl
-unread_held (Some s) is = ap (λ (x : SourceValue). held_in x.waiting x.file) (is s refl)
-
 pub begins : (w : Asked) (olds : List SourceValue) (listing : Listing) (out : Option (List ℕ)) (writes : Calls) → listing ≡ nothing_listed w
     → AreUnread olds → IsMerging w olds olds 0 listing out out writes writes
 begins w olds listing out writes is fresh = rw is (record {

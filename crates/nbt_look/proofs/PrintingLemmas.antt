@@ -21,7 +21,7 @@ use Rattle.nbt_look.specs.Merging.{IsNext, Merges, comes_first, first_of, with_m
 use Rattle.nbt_look.specs.Merging as merging
 use Rattle.nbt_look.specs.Printing.{PrintsFrame, PrintsLast}
 use Rattle.nbt_look.specs.Printing.{AreListed, AreUnread, GivenAt, HasEnded, IsDone, MergesOn, PrintsList, Prints, held}
-use Rattle.nbt_look.specs.Sources.{AreRead, FillsAll, IsFirst, IsOn, IsRead, NoneFirst, ReadAs, SourceValue, given, held_in, held_of, time_in, time_of, unread}
+use Rattle.nbt_look.specs.Sources.{AreRead, FillsAll, IsFirst, IsOn, IsRead, NoneFirst, ReadAs, SourceValue, given, held_of, time_in, time_of, unread}
 use Rattle.nbt_look.specs.Totals.{last_text}
 use Rattle.nbt_look.specs.Wanted.{is_enough}
 use Rattle.nbt_look.proofs.SourcesLemmas.{IsKnown, fill_each, nothing_yet, same_calls, set_elsewhere, set_here, some_at}

@@ -21,7 +21,7 @@ use Rattle.nbt_look.specs.Merging.{IsNext, Merges, comes_first, first_of, with_m
 use Rattle.nbt_look.specs.Merging as merging
 use Rattle.nbt_look.specs.Printing.{PrintsFrame, PrintsLast}
 use Rattle.nbt_look.specs.Printing.{AreListed, AreUnread, GivenAt, HasEnded, IsDone, MergesOn, PrintsList, Prints, held}
-use Rattle.nbt_look.specs.Sources.{AreRead, FillsAll, IsFirst, IsOn, IsRead, NoneFirst, ReadAs, SourceValue, given, held_in, held_of, time_in, time_of, unread}
+use Rattle.nbt_look.specs.Sources.{AreRead, FillsAll, IsFirst, IsOn, IsRead, NoneFirst, ReadAs, SourceValue, given, held_of, time_in, time_of, unread}
 use Rattle.nbt_look.specs.Totals.{last_text}
 use Rattle.nbt_look.specs.Wanted.{is_enough}
 use Rattle.nbt_look.proofs.SourcesLemmas.{IsKnown, fill_each, nothing_yet, same_calls, set_elsewhere, set_here, some_at}
@@ -102,11 +102,6 @@ pub unread_more : (xs ys : List SourceValue) (s : SourceValue) (known : Option (
 unread_more xs ys s known all is fresh i t at =
     let grown : ys ≡ xs ++ unread known ∷ [] = is ∙ ap (λ (x : SourceValue). xs ++ x ∷ []) fresh in
     unread_at xs known i t all (sym (ap (λ (zs : List SourceValue). slice_get zs i) grown) ∙ at)
-
--- nothing is held of a file of which nothing was read
-unread_held : (o : Option SourceValue) → ((s : SourceValue) → o ≡ Some s → s ≡ unread s.known) → held_of o ≡ []
-unread_held None is = refl
-unread_held (Some s) is = ap (λ (x : SourceValue). held_in x.waiting x.file) (is s refl)
 
 pub begins : (w : Asked) (olds : List SourceValue) (listing : Listing) (out : Option (List ℕ)) (writes : Calls) → listing ≡ nothing_listed w
     → AreUnread olds → IsMerging w olds olds 0 listing out out writes writes

@@ -17,9 +17,6 @@ same_parts xs ys us vs long same = (
   sym (drop_at xs us (length ys) long) ∙ ap (drop (length ys)) same ∙ drop_at ys vs (length ys) refl,
 )
 
-same_taken : (s t : Taken Context) (r : Result (Taken Context) FileFault) → r ≡ Ok s → r ≡ Ok t → s ≡ t
-same_taken s t r is also = cc
-
 -- whatever follows a part, it says how long it is
 says_on : (c : Context) (part more : List ℕ) → size_of c part ≡ Ok (length part) → size_of c (part ++ more) ≡ Ok (length part)
 says_on c part more says = size_same c part more (least_size c part (length part) says (omega arith)) ∙ says
@@ -30,7 +27,7 @@ one_part c part other more rest s t p q same =
     let long : length part ≡ length other =
     ok_is (length part) (length other) (size_of c (part ++ more)) (says_on c part more p.size) (ap (size_of c) same ∙ says_on c other rest q.size) in
     let both = same_parts part other more rest long same in
-    (both.0, both.1, same_taken s t (content c part) p.gives (ap (content c) both.0 ∙ q.gives))
+    (both.0, both.1, ok_is s t (content c part) p.gives (ap (content c) both.0 ∙ q.gives))
 
 pub one_way : (c d last other : Context) (bytes same rest left : List ℕ) (fs gs : List FrameValue) → Spells c bytes fs last rest → IsStuck last rest
     → Spells d same gs other left → IsStuck other left → c ≡ d → bytes ≡ same → (fs ≡ gs) × (rest ≡ left) × (last ≡ other)
@@ -61,15 +58,12 @@ unfinished_there c bytes u part more t same p =
     let size : length part ≡ u.size = ok_is (length part) u.size (size_of c bytes) (ap (size_of c) same ∙ says_on c part more p.size) u.says in
     omega (arith, u.short, size, ap length same, length-append part more)
 
-bad_size : (n : ℕ) (why : FileFault) (r : Result ℕ FileFault) → r ≡ Ok n → r ≡ Err why → ⊥
-bad_size n why r is broken = absurd (cc)
-
-bad_content : (t : Taken Context) (why : FileFault) (r : Result (Taken Context) FileFault) → r ≡ Ok t → r ≡ Err why → ⊥
-bad_content t why r is broken = absurd (cc)
+not_both : {A : Type 0} (x : A) (why : FileFault) (r : Result A FileFault) → r ≡ Ok x → r ≡ Err why → ⊥
+not_both x why r is broken = absurd (cc)
 
 pub bad_there : (c : Context) (bytes : List ℕ) (why : FileFault) → IsBad c bytes why → IsStuck c bytes
-bad_there c bytes why (in_size not) part more t same p = bad_size (length part) why (size_of c bytes) (ap (size_of c) same ∙ says_on c part more p.size) not
+bad_there c bytes why (in_size not) part more t same p = not_both (length part) why (size_of c bytes) (ap (size_of c) same ∙ says_on c part more p.size) not
 bad_there c bytes why (in_content size says within not) part more t same p =
     let is : length part ≡ size = ok_is (length part) size (size_of c bytes) (ap (size_of c) same ∙ says_on c part more p.size) says in
     let front : take size bytes ≡ part = ap (take size) same ∙ take_at part more size is in
-    bad_content t why (content c part) p.gives (ap (content c) (sym front) ∙ not)
+    not_both t why (content c part) p.gives (ap (content c) (sym front) ∙ not)

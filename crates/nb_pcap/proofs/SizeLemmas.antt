@@ -78,7 +78,7 @@ size_same (Blocks section) xs ys long = block_same section.order xs ys long
 pub either : (m n : ℕ) → (m < n) ⊎ (n ≤ m)
 either m n = grind arith
 
-pub ok_is : (m n : ℕ) (r : Result ℕ FileFault) → r ≡ Ok m → r ≡ Ok n → m ≡ n
+pub ok_is : {A : Type 0} (m n : A) (r : Result A FileFault) → r ≡ Ok m → r ≡ Ok n → m ≡ n
 ok_is m n r is also = cc
 
 least_is : (kind : BlockKind) → 12 ≤ least_length kind

@@ -1,17 +1,19 @@
 -- One fragment more.
-use Rattle.std.proofs.Common.{ℕ, ◌≡◌, ◌≤◌, ◌<◌, ◌+◌, refl, sym, subst, ◌∙◌, ap, ap₂, arith, List, [], ◌∷◌, ◌++◌, map, filter, fold, append-nil, Bool, true, false, cond, min, Option, Some, None, Result, Ok, Err, OnOk, OnErr, IfOk}
+use Rattle.std.proofs.Common.{ℕ, ◌≡◌, ◌≤◌, ◌<◌, ◌+◌, refl, sym, subst, ◌∙◌, ap, ap₂, arith, List, [], ◌∷◌, ◌++◌, map, filter, fold, sum_by, ◌^◌, append-nil, Bool, true, false, cond, min, Option, Some, None, Result, Ok, Err, OnOk, OnErr, IfOk}
 use Rattle.std.specs.Prelude.{is_some, if◌then◌else◌}
 use Rattle.std.proofs.lemmas.List.Elements.{filter-append}
 use Rattle.std.proofs.lemmas.Option.{same_Some}
 use Rattle.std.specs.Cmp.{Equal-is, tied_itself}
-use Rattle.std.specs.BTreeMap.{BTreeMap, btree_map_len, get}
+use Rattle.std.specs.BTreeMap.{BTreeMap, btree_map_len, get, is_at, insert_entry, IsOrdered, values}
+use Rattle.std.specs.Map.{set_value, values_of}
+use Rattle.std.proofs.lemmas.Map.Entries.{sum_by-insert_entry, sum_by-set_value}
 use Rattle.nb_streams.specs.declared.bytes.NoMemory.{NoMemory}
 use Rattle.nb_entries.specs.Piece.{PieceParts}
 use Rattle.nb_entries.specs.Cover.{CoverValue}
 use Rattle.nb_entries.specs.CoverChange.{cover_of_pieces, no_facts, with_piece}
 use Rattle.nb_entries.specs.declared.slot.Slot.TheVariants.{Held}
 use Rattle.nb_fragments.specs.declared.key.Key.{Key}
-use Rattle.nb_fragments.specs.declared.limits.TheConstants.{KEYS}
+use Rattle.nb_fragments.specs.declared.limits.TheConstants.{KEYS, ROOM}
 use Rattle.nb_fragments.specs.declared.taken.Taken.{Taken}
 use Rattle.nb_fragments.specs.declared.taken.Taken.TheVariants.{Whole, Kept, Again, Disagrees, LeftOut}
 use Rattle.nb_fragments.specs.declared.waiting.Waiting.{Waiting}
@@ -20,7 +22,7 @@ use Rattle.nb_fragments.specs.Keys.{key_cmp, same_key}
 use Rattle.nb_fragments.specs.KeyFacts.{key_cmp_total}
 use Rattle.nb_fragments.specs.Live.{Came, is_of, of_key, cover_at}
 use Rattle.nb_fragments.specs.Taking.{IsTaken, MakesOf, live_after}
-use Rattle.nb_fragments.specs.Code.Kept.{IsPut, Joins, Known, Waits, came_at, known_by, known_cover, known_of, known_with, kept_at}
+use Rattle.nb_fragments.specs.Code.Kept.{IsPut, Joins, charge_of, Known, Waits, came_at, known_by, known_cover, known_of, known_with, kept_at}
 use Rattle.nb_fragments.proofs.KeyLemmas.{key_exact}
 
 -- ---- what is joined
@@ -91,11 +93,13 @@ own_key k = (Equal-is (key_cmp k k)).1 (tied_itself key_cmp_total k)
 
 -- one fragment more is live
 pub waits_more : (f g : Fragments) (key : Key) (piece : PieceParts) (live : List Came) → Waits f live → IsPut f.waiting g.waiting f.clock key piece
-    → g.earliest ≡ min f.earliest f.clock → Waits g (live ++ came_at f key piece ∷ [])
-waits_more f g key piece live h p least = record {
+    → g.earliest ≡ min f.earliest f.clock → charge_of g.waiting ≤ g.used → g.used ≤ ROOM → Waits g (live ++ came_at f key piece ∷ [])
+waits_more f g key piece live h p least charge room = record {
   known = λ k. ap known_of (p.put k) ∙ step k (same_key key k) refl ∙ ap known_by (sym (of_key-more k live (came_at f key piece)));
   early = λ k w e. early k w (same_key key k) refl (sym (p.put k) ∙ e);
   few = p.few h.few;
+  charge = charge;
+  room = room;
 }
   where
     now : ℕ
@@ -146,15 +150,17 @@ makes_of f key piece live taken h is =
 
 -- after a fragment that was joined, or left out
 pub live_joined : (f g : Fragments) (key : Key) (piece : PieceParts) (live : List Came) (taken : Taken) → Waits f live → Joins f.waiting g.waiting f.clock key piece taken
-    → g.earliest ≡ min f.earliest f.clock → Waits g (live_after taken (came_at f key piece) live)
-live_joined f g key piece live (Whole bytes) h j least = waits_more f g key piece live h j.0 least
-live_joined f g key piece live Kept h j least = waits_more f g key piece live h j.0 least
-live_joined f g key piece live Again h j least = waits_more f g key piece live h j.0 least
-live_joined f g key piece live Disagrees h j least = waits_more f g key piece live h j.0 least
-live_joined f g key piece live (LeftOut refusal) h j least = record {
+    → g.earliest ≡ min f.earliest f.clock → charge_of g.waiting ≤ g.used → g.used ≤ ROOM → Waits g (live_after taken (came_at f key piece) live)
+live_joined f g key piece live (Whole bytes) h j least charge room = waits_more f g key piece live h j.0 least charge room
+live_joined f g key piece live Kept h j least charge room = waits_more f g key piece live h j.0 least charge room
+live_joined f g key piece live Again h j least charge room = waits_more f g key piece live h j.0 least charge room
+live_joined f g key piece live Disagrees h j least charge room = waits_more f g key piece live h j.0 least charge room
+live_joined f g key piece live (LeftOut refusal) h j least charge room = record {
   known = λ k. ap (λ (m : BTreeMap Key Waiting). known_of (get key_cmp m k)) j.1 ∙ h.known k;
   early = λ k w e. (let most = h.early k w (ap (λ (m : BTreeMap Key Waiting). get key_cmp m k) (sym j.1) ∙ e) in omega (arith, most, least));
   few = subst (λ (m : BTreeMap Key Waiting). btree_map_len m ≤ KEYS) (sym j.1) h.few;
+  charge = charge;
+  room = room;
 }
 
 pub makes_joined : (f : Fragments) (new : BTreeMap Key Waiting) (key : Key) (piece : PieceParts) (live : List Came) (taken : Taken) → Waits f live
@@ -167,11 +173,13 @@ makes_joined f new key piece live (LeftOut refusal) h j = j.0
 
 -- where memory ran out
 pub live_kept : (f g : Fragments) (live : List Came) → Waits f live → ((k : Key) → kept_at g k ≡ kept_at f k) → btree_map_len g.waiting ≡ btree_map_len f.waiting
-    → g.earliest ≡ f.earliest → Waits g live
-live_kept f g live h same len least = record {
+    → g.earliest ≡ f.earliest → charge_of g.waiting ≤ charge_of f.waiting → g.used ≡ f.used → Waits g live
+live_kept f g live h same len least charge used = record {
   known = λ k. ap known_of (same k) ∙ h.known k;
   early = λ k w e. (let most = h.early k w (sym (same k) ∙ e) in omega (arith, most, least));
   few = let most = h.few in omega (arith, len, most);
+  charge = let less = h.charge in omega (arith, less, charge, used);
+  room = let most = h.room in omega (arith, most, used);
 }
 
 pub any_err : {P : Type 0} (r : Result Taken NoMemory) → P → OnErr r P
@@ -182,3 +190,33 @@ any_err (Err e) p = p
 pub few_more : (o : Option Waiting) (m n : ℕ) → m ≡ n + (if is_some o then 0 else 1) → n < KEYS → n ≤ KEYS → m ≤ KEYS
 few_more None m n e less most = omega (arith, e, less)
 few_more (Some w) m n e less most = omega (arith, e, less)
+
+-- ---- how many bytes count
+
+abbrev total : List (Key × Waiting) → ℕ
+total es = sum_by (λ (x : Waiting). x.bytes) (values_of es)
+
+pub charge_held : (old new : BTreeMap Key Waiting) (key : Key) (w v : Waiting) (u t n : ℕ) (r : Result Taken NoMemory) → get key_cmp old key ≡ Some w
+    → new.entries ≡ set_value (is_at (key_cmp key)) old.entries v → OnOk r (u + n < 2 ^ 64 → v.bytes + u ≤ w.bytes + t) → OnOk r (u + n < 2 ^ 64 → charge_of new + u ≤ charge_of old + t)
+charge_held old new key w v u t n (Err e) at put more = tt
+charge_held old new key w v u t n (Ok taken) at put more = λ less.
+    let sum = sum_by-set_value (λ (x : Waiting). x.bytes) (is_at (key_cmp key)) old.entries w v at in
+    let is = ap total put in
+    let grown = more less in
+    omega (arith, sum, is, grown)
+
+pub charge_kept : (old new : BTreeMap Key Waiting) (key : Key) (w v : Waiting) (r : Result Taken NoMemory) → get key_cmp old key ≡ Some w
+    → new.entries ≡ set_value (is_at (key_cmp key)) old.entries v → OnErr r (v ≡ w) → OnErr r (charge_of new ≤ charge_of old)
+charge_kept old new key w v (Ok taken) at put kept = tt
+charge_kept old new key w v (Err e) at put kept =
+    let sum = sum_by-set_value (λ (x : Waiting). x.bytes) (is_at (key_cmp key)) old.entries w v at in
+    let is = ap total put in
+    let same = ap (λ (x : Waiting). x.bytes) kept in
+    omega (arith, sum, is, same)
+
+pub charge_new : (old new : BTreeMap Key Waiting) (key : Key) (v : Waiting) → IsOrdered key_cmp old → new.entries ≡ insert_entry key_cmp old.entries key v
+    → charge_of new ≤ charge_of old + v.bytes
+charge_new old new key v ordered put =
+    let sum = sum_by-insert_entry (λ (x : Waiting). x.bytes) key_cmp_total old.entries key v ordered in
+    let is = ap total put in
+    omega (arith, sum, is)

@@ -1,16 +1,17 @@
 -- Live fragments, and what is kept of them.
-use Rattle.std.proofs.Common.{ℕ, ◌≡◌, ◌≤◌, ◌<◌, ◌+◌, refl, sym, subst, ◌∙◌, ap, arith, List, [], ◌∷◌, ◌++◌, map, filter, length, Bool, true, false, cond, not, min, nat_le, Option, Some, None}
+use Rattle.std.proofs.Common.{ℕ, ◌≡◌, ◌≤◌, ◌<◌, ◌+◌, refl, sym, subst, ◌∙◌, ap, arith, List, [], ◌∷◌, ◌++◌, map, filter, sum_by, ◌-◌, ◌^◌, length, Bool, true, false, cond, not, min, nat_le, Option, Some, None}
 use Rattle.std.proofs.lemmas.Bool.{leb-true, leb-false, le-leb, lt-leb}
 use Rattle.std.proofs.lemmas.Option.{same_Some}
+use Rattle.std.proofs.lemmas.List.Sums.{sum_by-cons}
 use Rattle.std.specs.BTreeMap.{btree_map_len}
 use Rattle.std.specs.Map.{lookup}
 use Rattle.nb_entries.specs.Cover.{CoverValue}
 use Rattle.nb_fragments.specs.declared.key.Key.{Key}
-use Rattle.nb_fragments.specs.declared.limits.TheConstants.{KEYS, LIFETIME}
+use Rattle.nb_fragments.specs.declared.limits.TheConstants.{KEYS, LIFETIME, ROOM}
 use Rattle.nb_fragments.specs.declared.waiting.Waiting.{Waiting}
 use Rattle.nb_fragments.specs.declared.fragments.Fragments.{Fragments}
 use Rattle.nb_fragments.specs.Live.{Came, is_of, of_key, start_of, is_over, live_at}
-use Rattle.nb_fragments.specs.Code.Kept.{Known, known_of, known_by, kept_at, Waits, still_kept, earliest_in}
+use Rattle.nb_fragments.specs.Code.Kept.{Known, charge_of, known_of, known_by, kept_at, Waits, still_kept, earliest_in, used_in}
 use Rattle.nb_fragments.proofs.KeyLemmas.{key_exact}
 
 -- ---- what stays live
@@ -50,14 +51,17 @@ still now (Some w) (c ∷ cs) e =
 
 -- the clock goes on
 pub waits_on : (f g : Fragments) (now : ℕ) (live : List Came) → Waits f live → ((k : Key) → kept_at g k ≡ still_kept now (kept_at f k))
-    → ((k : Key) (w : Waiting) → kept_at g k ≡ Some w → g.earliest ≤ w.start) → btree_map_len g.waiting ≤ btree_map_len f.waiting → Waits g (live_at now live)
-waits_on f g now live h kept early few = record {
+    → ((k : Key) (w : Waiting) → kept_at g k ≡ Some w → g.earliest ≤ w.start) → btree_map_len g.waiting ≤ btree_map_len f.waiting
+    → charge_of g.waiting ≤ g.used → g.used ≤ ROOM → Waits g (live_at now live)
+waits_on f g now live h kept early few charge room = record {
   known = λ k.
       ap known_of (kept k)
       ∙ still now (kept_at f k) (of_key k live) (h.known k)
       ∙ ap known_by (sym (kept_of_key (λ q. not (is_over now (start_of (of_key q live)))) k live));
   early = early;
   few = let most = h.few in omega (arith, few, most);
+  charge = charge;
+  room = room;
 }
 
 -- where nothing is over, all is kept
@@ -74,13 +78,16 @@ none_over now least (Some w) over h = at (is_over now (Some w.start)) refl
     at false e = refl
 
 -- the clock goes on, and nothing is over
-pub waits_still : (f g : Fragments) (now : ℕ) (live : List Came) → Waits f live → is_over now (Some f.earliest) ≡ false → g.waiting ≡ f.waiting → g.earliest ≡ f.earliest → Waits g (live_at now live)
-waits_still f g now live h over same least =
+pub waits_still : (f g : Fragments) (now : ℕ) (live : List Came) → Waits f live → is_over now (Some f.earliest) ≡ false → g.waiting ≡ f.waiting → g.earliest ≡ f.earliest → g.used ≡ f.used
+    → Waits g (live_at now live)
+waits_still f g now live h over same least used =
     let kept : (k : Key) → kept_at g k ≡ kept_at f k = λ k. ap (λ m. kept_at (record { alloc = f.alloc; waiting = m; clock = f.clock; earliest = f.earliest; used = f.used }) k) same in
     waits_on f g now live h
     (λ k. kept k ∙ none_over now f.earliest (kept_at f k) over (h.early k))
     (λ k w e. subst (λ n. n ≤ w.start) (sym least) (h.early k w (sym (kept k) ∙ e)))
     (subst (λ m. btree_map_len m ≤ btree_map_len f.waiting) (sym same) (omega arith))
+    (let less = h.charge in let is = ap charge_of same in omega (arith, less, is, used))
+    (let most = h.room in omega (arith, most, used))
 
 -- ---- the earliest start
 
@@ -96,3 +103,26 @@ earliest_found test (e ∷ es) m w h = at (test e.0) (earliest_found test es (mi
         → cond b (Some e.1) (lookup test es) ≡ Some w → earliest_in (min m e.1.start) (map (λ e. e.1) es) ≤ w.start
     at true rec g = let same : e.1.start ≡ w.start = ap (λ (x : Waiting). x.start) (same_Some _ _ g) in let most = earliest_most (map (λ e. e.1) es) (min m e.1.start) in omega (arith, same, most)
     at false rec g = rec g
+
+-- ---- how many bytes count
+
+total-more : (w : Waiting) (ws : List Waiting) → sum_by (λ (x : Waiting). x.bytes) (w ∷ ws) ≡ w.bytes + sum_by (λ (x : Waiting). x.bytes) ws
+total-more w ws = sum_by-cons (λ (x : Waiting). x.bytes) w ws
+
+pub used_found : (ws : List Waiting) (u : ℕ) → u + sum_by (λ (x : Waiting). x.bytes) ws < 2 ^ 64 → u + sum_by (λ (x : Waiting). x.bytes) ws ≤ used_in u ws
+used_found [] u less = omega arith
+used_found (w ∷ ws) u less =
+    let more = total-more w ws in
+    let added : min (u + w.bytes) (2 ^ 64 - 1) ≡ u + w.bytes = omega (arith, less, more) in
+    let rest = used_found ws (u + w.bytes) (omega (arith, less, more)) in
+    let same = ap (λ n. used_in n ws) added in
+    omega (arith, rest, more, same)
+
+pub filter_less : (p : Key × Waiting → Bool) (es : List (Key × Waiting)) → sum_by (λ (x : Waiting). x.bytes) (map (λ e. e.1) (filter p es)) ≤ sum_by (λ (x : Waiting). x.bytes) (map (λ e. e.1) es)
+filter_less p [] = omega arith
+filter_less p (e ∷ es) = at (p e) (filter_less p es)
+  where
+    at : (b : Bool) → sum_by (λ (x : Waiting). x.bytes) (map (λ e. e.1) (filter p es)) ≤ sum_by (λ (x : Waiting). x.bytes) (map (λ e. e.1) es)
+        → sum_by (λ (x : Waiting). x.bytes) (map (λ e. e.1) (cond b (e ∷ filter p es) (filter p es))) ≤ sum_by (λ (x : Waiting). x.bytes) (map (λ e. e.1) (e ∷ es))
+    at true rec = let a = total-more e.1 (map (λ e. e.1) (filter p es)) in let b = total-more e.1 (map (λ e. e.1) es) in omega (arith, rec, a, b)
+    at false rec = let b = total-more e.1 (map (λ e. e.1) es) in omega (arith, rec, b)

@@ -1,14 +1,15 @@
 //! Fragments, by the packet that they are of.
-ghost use Rattle.std.specs.Prelude.{◌≡◌, ◌≤◌, ◌<◌, ◌^◌, ◌+◌, ◌-◌, [], ◌∷◌, ◌++◌, ℕ, List, length, IfOk, OnErr, MatchOption, None, Some};
+ghost use Rattle.std.specs.Prelude.{◌≡◌, ◌≤◌, ◌<◌, ◌^◌, ◌+◌, ◌-◌, [], ◌∷◌, ◌++◌, ℕ, List, length, IfOk, OnOk, OnErr, MatchOption, None, Some};
 ghost use Rattle.std.specs.BTreeMap.{btree_map_len, get, values};
 ghost use Rattle.nb_datagram.specs.declared.limits.TheConstants.{MAX_LENGTH};
 ghost use Rattle.nb_entries.specs.Piece.{piece_reach};
 ghost use Rattle.nb_fragments.specs.declared.key.Key.{Key};
 ghost use Rattle.nb_fragments.specs.declared.waiting.Waiting.{Waiting};
+ghost use Rattle.nb_fragments.specs.declared.limits.TheConstants.{KEYS, ROOM};
 ghost use Rattle.nb_fragments.specs.Keys.{key_cmp, key_of};
 ghost use Rattle.nb_fragments.specs.Live.{Came, clock_after, cover_at, is_over, live_at};
 ghost use Rattle.nb_fragments.specs.Taking.{Answers, IsLong, MakesOf, came_now, live_after, piece_in};
-ghost use Rattle.nb_fragments.specs.Code.Kept.{Joins, Waits, came_at, clock_of, earliest_in, still_kept};
+ghost use Rattle.nb_fragments.specs.Code.Kept.{Joins, Waits, came_at, charge_of, clock_of, earliest_in, still_kept, used_in};
 
 use crate::key::Key;
 use crate::limits::{KEYS, LIFETIME, ROOM};
@@ -78,6 +79,23 @@ impl Fragments {
         }
     }
 
+    /// How many packets some fragments are kept of.
+    pub fn len(&self) -> usize
+        ensures { (live : List Came) → Waits self.now live → result ≤ KEYS }
+    {
+        self.waiting.len()
+    }
+
+    /// How many bytes count of what is kept: those of the fragments that said more than the ones
+    /// before them.
+    pub fn used(&self) -> usize
+        ensures charge { (live : List Came) → Waits self.now live →
+            charge_of self.now.waiting ≤ result }
+        ensures room { (live : List Came) → Waits self.now live → result ≤ ROOM }
+    {
+        self.used
+    }
+
     /// Joins a piece of a packet that comes now.
     fn join(&mut self, key: Key, piece: &Piece<'_>) -> Result<Taken, NoMemory>
         ensures clock { clock_of self.new ≡ clock_of self.old }
@@ -117,7 +135,7 @@ impl Fragments {
     {
         retain_live(&mut self.waiting, self.clock);
         self.earliest = earliest_of(&self.waiting);
-        self.used = used_of(&self.waiting);
+        self.used = self.used.min(used_of(&self.waiting));
     }
 }
 
@@ -145,6 +163,11 @@ fn join_in(
     ensures err { OnErr result ((other : Key) →
         get key_cmp waiting.new other ≡ get key_cmp waiting.old other) }
     ensures few { OnErr result (btree_map_len waiting.new ≡ btree_map_len waiting.old) }
+    ensures charge { OnOk result (used.old + length piece.now.bytes < 2 ^ 64 →
+        charge_of waiting.new + used.old ≤ charge_of waiting.old + used.new) }
+    ensures most { OnOk result (used.new ≤ used.old + length piece.now.bytes) }
+    ensures less { OnErr result (charge_of waiting.new ≤ charge_of waiting.old) }
+    ensures unused { OnErr result (used.new ≡ used.old) }
 {
     match waiting.get_mut(&key) {
         Some(kept) => kept.join(alloc, piece, used),
@@ -166,13 +189,20 @@ fn begin(
     ensures err { OnErr result ((other : Key) →
         get key_cmp waiting.new other ≡ get key_cmp waiting.old other) }
     ensures few { OnErr result (btree_map_len waiting.new ≡ btree_map_len waiting.old) }
+    ensures charge { OnOk result (used.old + length piece.now.bytes < 2 ^ 64 →
+        charge_of waiting.new + used.old ≤ charge_of waiting.old + used.new) }
+    ensures most { OnOk result (used.new ≤ used.old + length piece.now.bytes) }
+    ensures less { OnErr result (charge_of waiting.new ≤ charge_of waiting.old) }
+    ensures unused { OnErr result (used.new ≡ used.old) }
 {
     if KEYS <= waiting.len() {
         return Ok(Taken::LeftOut(Refusal::TooMany));
     }
     let mut first = Waiting::new(alloc, now);
-    let taken = first.join(alloc, piece, used)?;
+    let mut charged = *used;
+    let taken = first.join(alloc, piece, &mut charged)?;
     waiting.insert(key, first)?;
+    *used = charged;
     Ok(taken)
 }
 
@@ -181,6 +211,7 @@ fn retain_live(waiting: &mut BTreeMap<Key, Waiting>, now: u64)
     ensures kept { (key : Key) →
         get key_cmp waiting.new key ≡ still_kept now (get key_cmp waiting.old key) }
     ensures few { btree_map_len waiting.new ≤ btree_map_len waiting.old }
+    ensures charge { charge_of waiting.new ≤ charge_of waiting.old }
 {
     waiting.retain(|_key, waiting| !is_over(now, waiting.start));
 }
@@ -197,7 +228,9 @@ fn earliest_of(map: &BTreeMap<Key, Waiting>) -> u64
 }
 
 /// At least how many bytes are kept.
-fn used_of(map: &BTreeMap<Key, Waiting>) -> usize {
+fn used_of(map: &BTreeMap<Key, Waiting>) -> usize
+    ensures { result ≡ used_in 0 (values map.now) }
+{
     let mut used = 0_usize;
     for waiting in map.values() {
         used = used.saturating_add(waiting.bytes);

@@ -1,5 +1,5 @@
 //! What is kept of a packet.
-ghost use Rattle.std.specs.Prelude.{◌≡◌, ◌≤◌, ◌+◌, length, IfOk, OnOk, OnErr};
+ghost use Rattle.std.specs.Prelude.{◌≡◌, ◌≤◌, ◌<◌, ◌+◌, ◌^◌, length, IfOk, OnOk, OnErr};
 ghost use Rattle.nb_entries.specs.Cover.{CoverValue};
 ghost use Rattle.nb_entries.specs.declared.slot.Slot.TheVariants.{Held};
 ghost use Rattle.nb_entries.specs.CoverChange.{CoverChange, no_facts, with_piece};
@@ -47,6 +47,10 @@ impl Waiting {
         ensures joined { OnOk result (self.new.cover ≡ with_piece self.old.cover piece.now) }
         ensures taken { IfOk result (IsTaken self.old.cover self.new.cover) }
         ensures kept { OnErr result (self.new ≡ self.old) }
+        ensures charge { OnOk result (used.old + length piece.now.bytes < 2 ^ 64 →
+            self.new.bytes + used.old ≤ self.old.bytes + used.new) }
+        ensures most { OnOk result (used.new ≤ used.old + length piece.now.bytes) }
+        ensures unused { OnErr result (used.new ≡ used.old) }
     {
         let change = self.cover.insert(alloc, piece)?;
         let added = bytes_added(&change, piece.bytes().len());

@@ -1,6 +1,6 @@
 -- What the code keeps of fragments.
-use Rattle.std.specs.Prelude.{◌≡◌, ◌≤◌, ℕ, List, [], ◌∷◌, map, Option, Some, None, min, not, cond}
-use Rattle.std.specs.BTreeMap.{BTreeMap, get, btree_map_len}
+use Rattle.std.specs.Prelude.{◌≡◌, ◌≤◌, ◌+◌, ◌-◌, ◌^◌, sum_by, ℕ, List, [], ◌∷◌, map, Option, Some, None, min, not, cond}
+use Rattle.std.specs.BTreeMap.{BTreeMap, get, btree_map_len, values}
 use Rattle.nb_entries.specs.Cover.{CoverValue}
 use Rattle.nb_entries.specs.CoverChange.{cover_of_pieces, no_facts, with_piece}
 use Rattle.nb_entries.specs.Piece.{PieceParts}
@@ -11,7 +11,7 @@ use Rattle.nb_fragments.specs.declared.taken.Taken.TheVariants.{LeftOut}
 use Rattle.nb_fragments.specs.declared.taken.Refusal.TheVariants.{TooMany}
 use Rattle.nb_fragments.specs.Taking.{IsTaken}
 use Rattle.nb_fragments.specs.declared.key.Key.{Key}
-use Rattle.nb_fragments.specs.declared.limits.TheConstants.{KEYS}
+use Rattle.nb_fragments.specs.declared.limits.TheConstants.{KEYS, ROOM}
 use Rattle.nb_fragments.specs.declared.waiting.Waiting.{Waiting}
 use Rattle.nb_fragments.specs.declared.fragments.Fragments.{Fragments}
 use Rattle.nb_fragments.specs.Keys.{key_cmp, same_key}
@@ -40,11 +40,17 @@ kept_at f key = get key_cmp f.waiting key
 abbrev pub clock_of : Fragments → ℕ
 clock_of f = f.clock
 
+-- how many bytes count of what is kept
+abbrev pub charge_of : BTreeMap Key Waiting → ℕ
+charge_of map = sum_by (λ w. w.bytes) (values map)
+
 -- Waits f live: these are the fragments that are live, and f keeps what they say
 pub record Waits (f : Fragments) (live : List Came) : Type 0 where
   pub known : (key : Key) → known_of (kept_at f key) ≡ known_by (of_key key live)
   pub early : (key : Key) (w : Waiting) → kept_at f key ≡ Some w → f.earliest ≤ w.start
   pub few : btree_map_len f.waiting ≤ KEYS
+  pub charge : charge_of f.waiting ≤ f.used
+  pub room : f.used ≤ ROOM
 
 -- a piece of this packet that comes now
 abbrev pub came_at : Fragments → Key → PieceParts → Came
@@ -83,3 +89,8 @@ still_kept now (Some w) = cond (not (is_over now (Some w.start))) (Some w) None
 abbrev pub earliest_in : ℕ → List Waiting → ℕ
 earliest_in least [] = least
 earliest_in least (w ∷ ws) = earliest_in (min least w.start) ws
+
+-- how many bytes count of these and before them, as far as a number goes
+abbrev pub used_in : ℕ → List Waiting → ℕ
+used_in used [] = used
+used_in used (w ∷ ws) = used_in (min (used + w.bytes) (2 ^ 64 - 1)) ws

@@ -4,7 +4,7 @@ use Rattle.nb_entries.specs.Cover.{CoverValue}
 use Rattle.nb_entries.specs.CoverChange.{with_piece}
 use Rattle.nb_fragments.specs.declared.limits.TheConstants.{KEYS}
 use Rattle.nb_fragments.specs.Taking.{IsTaken}
-use Rattle.nb_fragments.proofs.JoinLemmas.{joined_new, few_more}
+use Rattle.nb_fragments.proofs.JoinLemmas.{charge_new, joined_new, few_more}
 use Rattle.nb_fragments.proofs.fragments.begin.Goals as goal
 
 pub returns-clause-ok : goal.returns-clause-ok
@@ -19,3 +19,9 @@ returns-clause-ok c =
     (c.join.ensures.start ∙ c.new-first.ensures.start)
     (c.in_ok-taken.ensures.joined ∙ ap (λ (a : CoverValue). with_piece a piece) c.new-first.ensures.cover)
     (subst (λ (a : CoverValue). IsTaken a v.cover taken) c.new-first.ensures.cover c.in_ok-taken.ensures.taken)
+
+pub returns-clause-charge : goal.returns-clause-charge
+returns-clause-charge c = λ fits.
+    let put = charge_new c.args.waiting.now c.insert.new.self c.args.key c.join.new.self c.insert.ensures.was_ordered c.in_ok-insert.ensures.entries in
+    let grown = c.in_ok-taken.ensures.charge fits in
+    omega (arith, put, grown, c.new-first.ensures.bytes)

@@ -16,6 +16,7 @@ use Rattle.nb_fragments.specs.declared.key.Key.{Key}
 use Rattle.nb_fragments.specs.declared.limits.TheConstants.{KEYS, ROOM}
 use Rattle.nb_fragments.specs.declared.taken.Taken.{Taken}
 use Rattle.nb_fragments.specs.declared.taken.Taken.TheVariants.{Whole, Kept, Again, Disagrees, LeftOut}
+use Rattle.nb_fragments.specs.declared.taken.Refusal.TheVariants.{TooMany}
 use Rattle.nb_fragments.specs.declared.waiting.Waiting.{Waiting}
 use Rattle.nb_fragments.specs.declared.fragments.Fragments.{Fragments}
 use Rattle.nb_fragments.specs.Keys.{key_cmp, same_key}
@@ -220,3 +221,10 @@ charge_new old new key v ordered put =
     let sum = sum_by-insert_entry (λ (x : Waiting). x.bytes) key_cmp_total old.entries key v ordered in
     let is = ap total put in
     omega (arith, sum, is)
+
+-- ---- where there is no room
+
+-- what is joined isn't left out
+pub is_joined : {P : Type 0} (a b : CoverValue) (r : Result Taken NoMemory) → IfOk r (IsTaken a b) → r ≡ Ok (LeftOut TooMany) → P
+is_joined {P} a b (Err e) is left = absurd (cc left)
+is_joined {P} a b (Ok taken) is left = let same : taken ≡ LeftOut TooMany = cc left in absurd (subst (IsTaken a b) same is)

@@ -1,15 +1,17 @@
 //! Fragments, by the packet that they are of.
-ghost use Rattle.std.specs.Prelude.{◌≡◌, ◌≤◌, ◌<◌, ◌^◌, ◌+◌, ◌-◌, [], ◌∷◌, ◌++◌, ℕ, List, length, IfOk, OnOk, OnErr, MatchOption, None, Some};
+ghost use Rattle.std.specs.Prelude.{◌≡◌, ◌≤◌, ◌<◌, ◌^◌, ◌+◌, ◌-◌, [], ◌∷◌, ◌++◌, ℕ, List, length, IfOk, OnOk, OnErr, MatchOption, None, Ok, Some};
 ghost use Rattle.std.specs.BTreeMap.{btree_map_len, get, values};
 ghost use Rattle.nb_datagram.specs.declared.limits.TheConstants.{MAX_LENGTH};
 ghost use Rattle.nb_entries.specs.Piece.{piece_reach};
 ghost use Rattle.nb_fragments.specs.declared.key.Key.{Key};
 ghost use Rattle.nb_fragments.specs.declared.waiting.Waiting.{Waiting};
+ghost use Rattle.nb_fragments.specs.declared.taken.Taken.TheVariants.{LeftOut};
+ghost use Rattle.nb_fragments.specs.declared.taken.Refusal.TheVariants.{TooMany};
 ghost use Rattle.nb_fragments.specs.declared.limits.TheConstants.{KEYS, ROOM};
 ghost use Rattle.nb_fragments.specs.Keys.{key_cmp, key_of};
 ghost use Rattle.nb_fragments.specs.Live.{Came, clock_after, cover_at, is_over, live_at};
 ghost use Rattle.nb_fragments.specs.Taking.{Answers, IsLong, MakesOf, came_now, live_after, piece_in};
-ghost use Rattle.nb_fragments.specs.Code.Kept.{Joins, Waits, came_at, charge_of, clock_of, earliest_in, still_kept, used_in};
+ghost use Rattle.nb_fragments.specs.Code.Kept.{IsFull, Joins, Waits, came_at, charge_of, clock_of, earliest_in, still_kept, used_in};
 
 use crate::key::Key;
 use crate::limits::{KEYS, LIFETIME, ROOM};
@@ -66,6 +68,8 @@ impl Fragments {
         ensures answer { IfOk result (λ taken. (live : List Came) → Waits self.old live →
             Answers fragment.now (came_now (clock_of self.new) fragment.now)
             (live_at (clock_of self.new) live) taken) }
+        ensures full { result ≡ Ok (LeftOut TooMany) →
+            IsFull self.new (key_of fragment.now) (length fragment.now.payload.bytes) }
         ensures err { OnErr result ((live : List Came) → Waits self.old live →
             Waits self.new (live_at (clock_of self.new) live)) }
     {
@@ -103,6 +107,8 @@ impl Fragments {
             Waits self.new (live_after taken (came_at self.old key piece.now) live)) }
         ensures answer { IfOk result (λ taken. (live : List Came) → Waits self.old live →
             MakesOf (came_at self.old key piece.now) live taken) }
+        ensures full { result ≡ Ok (LeftOut TooMany) →
+            IsFull self.new key (length piece.now.bytes) }
         ensures err { OnErr result ((live : List Came) → Waits self.old live →
             Waits self.new live) }
     {
@@ -168,6 +174,8 @@ fn join_in(
     ensures most { OnOk result (used.new ≤ used.old + length piece.now.bytes) }
     ensures less { OnErr result (charge_of waiting.new ≤ charge_of waiting.old) }
     ensures unused { OnErr result (used.new ≡ used.old) }
+    ensures full { result ≡ Ok (LeftOut TooMany) →
+        (get key_cmp waiting.new key ≡ None) × (KEYS ≤ btree_map_len waiting.new) }
 {
     match waiting.get_mut(&key) {
         Some(kept) => kept.join(alloc, piece, used),
@@ -194,6 +202,8 @@ fn begin(
     ensures most { OnOk result (used.new ≤ used.old + length piece.now.bytes) }
     ensures less { OnErr result (charge_of waiting.new ≤ charge_of waiting.old) }
     ensures unused { OnErr result (used.new ≡ used.old) }
+    ensures full { result ≡ Ok (LeftOut TooMany) →
+        (get key_cmp waiting.new key ≡ None) × (KEYS ≤ btree_map_len waiting.new) }
 {
     if KEYS <= waiting.len() {
         return Ok(Taken::LeftOut(Refusal::TooMany));

@@ -1,5 +1,5 @@
 -- What the code keeps of fragments.
-use Rattle.std.specs.Prelude.{◌≡◌, ◌≤◌, ◌+◌, ◌-◌, ◌^◌, sum_by, ℕ, List, [], ◌∷◌, map, Option, Some, None, min, not, cond}
+use Rattle.std.specs.Prelude.{◌≡◌, ◌≤◌, ◌<◌, ◌⊎◌, ◌+◌, ◌-◌, ◌^◌, sum_by, ℕ, List, [], ◌∷◌, map, Option, Some, None, min, not, cond}
 use Rattle.std.specs.BTreeMap.{BTreeMap, get, btree_map_len, values}
 use Rattle.nb_entries.specs.Cover.{CoverValue}
 use Rattle.nb_entries.specs.CoverChange.{cover_of_pieces, no_facts, with_piece}
@@ -51,6 +51,11 @@ pub record Waits (f : Fragments) (live : List Came) : Type 0 where
   pub few : btree_map_len f.waiting ≤ KEYS
   pub charge : charge_of f.waiting ≤ f.used
   pub room : f.used ≤ ROOM
+
+-- IsFull f key count: there is no room for so many bytes of this packet: none of it is kept, and as many packets are as may be; or
+-- more bytes would count than may
+abbrev pub IsFull : Fragments → Key → ℕ → Type 0
+IsFull f key count = ((kept_at f key ≡ None) × (KEYS ≤ btree_map_len f.waiting)) ⊎ (ROOM < f.used + count)
 
 -- a piece of this packet that comes now
 abbrev pub came_at : Fragments → Key → PieceParts → Came

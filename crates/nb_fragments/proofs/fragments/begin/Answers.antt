@@ -1,10 +1,10 @@
-use Rattle.std.proofs.Common.{◌≡◌, ◌<◌, ◌∙◌, ap, arith, subst}
+use Rattle.std.proofs.Common.{◌≡◌, ◌<◌, ◌∙◌, ap, arith, subst, Ok}
 use Rattle.std.specs.BTreeMap.{btree_map_len}
 use Rattle.nb_entries.specs.Cover.{CoverValue}
 use Rattle.nb_entries.specs.CoverChange.{with_piece}
 use Rattle.nb_fragments.specs.declared.limits.TheConstants.{KEYS}
 use Rattle.nb_fragments.specs.Taking.{IsTaken}
-use Rattle.nb_fragments.proofs.JoinLemmas.{charge_new, joined_new, few_more}
+use Rattle.nb_fragments.proofs.JoinLemmas.{charge_new, is_joined, joined_new, few_more}
 use Rattle.nb_fragments.proofs.fragments.begin.Goals as goal
 
 pub returns-clause-ok : goal.returns-clause-ok
@@ -25,3 +25,6 @@ returns-clause-charge c = λ fits.
     let put = charge_new c.args.waiting.now c.insert.new.self c.args.key c.join.new.self c.insert.ensures.was_ordered c.in_ok-insert.ensures.entries in
     let grown = c.in_ok-taken.ensures.charge fits in
     omega (arith, put, grown, c.new-first.ensures.bytes)
+
+pub returns-clause-full : goal.returns-clause-full
+returns-clause-full c = is_joined c.new-first.result.cover c.join.new.self.cover (Ok c.in_ok-taken.taken) c.in_ok-taken.ensures.taken

@@ -1,5 +1,5 @@
 use Rattle.std.proofs.Common.{◌≡◌, ◌∙◌, rules, arith, sym}
-use Rattle.nb_fragments.proofs.JoinLemmas.{charge_held, charge_kept, joined_held, kept_held}
+use Rattle.nb_fragments.proofs.JoinLemmas.{charge_held, charge_kept, is_joined, joined_held, kept_held}
 use Rattle.nb_fragments.proofs.fragments.join_in.Goals as goal
 
 pub returns-in-Some-clause-ok : goal.returns-in-Some-clause-ok
@@ -22,3 +22,6 @@ pub returns-in-Some-clause-less : goal.returns-in-Some-clause-less
 returns-in-Some-clause-less c =
     charge_kept c.args.waiting.now (c.get_mut.follows.lender c.join.new.self) c.args.key c.in-Some.kept.now c.join.new.self c.join.result (sym c.in-Some.ensures.value)
     (c.get_mut.follows.holds c.join.new.self).0 c.join.ensures.kept
+
+pub returns-in-Some-clause-full : goal.returns-in-Some-clause-full
+returns-in-Some-clause-full c = is_joined c.in-Some.kept.now.cover c.join.new.self.cover c.join.result c.join.ensures.taken

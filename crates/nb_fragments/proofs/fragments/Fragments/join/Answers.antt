@@ -1,4 +1,4 @@
-use Rattle.std.proofs.Common.{◌≤◌, ◌-◌, refl, ap, arith, length}
+use Rattle.std.proofs.Common.{◌≤◌, ◌-◌, ◌∙◌, inl, refl, ap, arith, length}
 use Rattle.nb_fragments.specs.declared.limits.TheConstants.{ROOM}
 use Rattle.nb_fragments.proofs.JoinLemmas.{any_err, live_joined, live_kept, makes_joined}
 use Rattle.nb_fragments.proofs.fragments.Fragments.join.Goals as goal
@@ -16,3 +16,6 @@ returns-clause-live c = λ live h. live_joined c.args.self.now _ c.args.key c.ar
 
 pub returns-clause-answer : goal.returns-clause-answer
 returns-clause-answer c = λ live h. makes_joined c.args.self.now _ c.args.key c.args.piece.now live c.in_ok-taken.taken h c.in_ok-taken.ensures.ok
+
+pub returns-clause-full : goal.returns-clause-full
+returns-clause-full c = λ left. inl (c.join_in.ensures.full (c.in_ok-taken.was ∙ left))

@@ -1,8 +1,9 @@
-use Rattle.std.proofs.Common.{◌≡◌, sym}
+use Rattle.std.proofs.Common.{◌≡◌, sym, subst, ap, length}
 use Rattle.std.proofs.lemmas.Bool.Decides.{not_from_Decides}
 use Rattle.nb_fragments.specs.Live.{Came}
 use Rattle.nb_fragments.specs.Taking.{came_now}
-use Rattle.nb_fragments.specs.Code.Kept.{came_at, clock_of}
+use Rattle.nb_fragments.specs.Code.Kept.{IsFull, came_at, clock_of}
+use Rattle.nb_entries.specs.Piece.{PieceParts}
 use Rattle.nb_fragments.proofs.TakeLemmas.{not_long, take_answer, take_err, take_live}
 use Rattle.nb_fragments.proofs.fragments.Fragments.take.Goals as goal
 
@@ -23,3 +24,9 @@ returns-in-Some-clause-answer c =
 
 pub returns-in-Some-clause-err : goal.returns-in-Some-clause-err
 returns-in-Some-clause-err c = take_err c.args.self.now c.advance.new.self c.join.new.self c.join.result c.join.ensures.clock c.advance.ensures.live c.join.ensures.err
+
+pub returns-in-Some-clause-full : goal.returns-in-Some-clause-full
+returns-in-Some-clause-full c = λ left.
+    let bytes = ap (λ (p : PieceParts). length p.bytes) c.in-Some.ensures.0 in
+    subst (λ k. IsFull c.join.new.self k (length c.args.fragment.now.payload.bytes)) c.of.ensures
+    (subst (λ n. IsFull c.join.new.self c.of.result n) bytes (c.join.ensures.full left))

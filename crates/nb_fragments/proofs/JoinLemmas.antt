@@ -1,10 +1,10 @@
 -- One fragment more.
-use Rattle.std.proofs.Common.{ℕ, ◌≡◌, ◌≤◌, ◌<◌, ◌+◌, refl, sym, subst, ◌∙◌, ap, ap₂, arith, List, [], ◌∷◌, ◌++◌, map, filter, fold, sum_by, ◌^◌, append-nil, Bool, true, false, cond, min, Option, Some, None, Result, Ok, Err, OnOk, OnErr, IfOk}
+use Rattle.std.proofs.Common.{ℕ, ◌≡◌, ◌≤◌, ◌<◌, ◌+◌, refl, sym, subst, ◌∙◌, ap, arith, List, [], ◌∷◌, ◌++◌, map, fold, sum_by, ◌^◌, append-nil, Bool, true, false, cond, min, Option, Some, None, Result, Ok, Err, OnOk, OnErr, IfOk}
 use Rattle.std.specs.Prelude.{is_some, if◌then◌else◌}
 use Rattle.std.proofs.lemmas.List.Elements.{filter-append}
 use Rattle.std.proofs.lemmas.Option.{same_Some}
 use Rattle.std.specs.Cmp.{Equal-is, tied_itself}
-use Rattle.std.specs.BTreeMap.{BTreeMap, btree_map_len, get, is_at, insert_entry, IsOrdered, values}
+use Rattle.std.specs.BTreeMap.{BTreeMap, btree_map_len, get, is_at, insert_entry, IsOrdered}
 use Rattle.std.specs.Map.{set_value, values_of}
 use Rattle.std.proofs.lemmas.Map.Entries.{sum_by-insert_entry, sum_by-set_value}
 use Rattle.nb_streams.specs.declared.bytes.NoMemory.{NoMemory}
@@ -48,7 +48,7 @@ joined_held old new now key piece w v (Ok taken) at put len start joined is =
     joins_of old new now key piece taken
     (record { value = v; known = ap Some grown; put = put; few = λ most. (omega (arith, len, most)) })
     (subst (λ (a : CoverValue). IsTaken a (known_with now piece (known_of (get key_cmp old key))).cover taken) (ap known_cover (sym before))
-        (subst (λ (b : CoverValue). IsTaken w.cover b taken) (ap (λ (k : Known). k.cover) grown) is))
+    (subst (λ (b : CoverValue). IsTaken w.cover b taken) (ap (λ (k : Known). k.cover) grown) is))
 
 -- where memory runs out nothing changes
 pub kept_held : (old new : BTreeMap Key Waiting) (key : Key) (w v : Waiting) (r : Result Taken NoMemory) → get key_cmp old key ≡ Some w
@@ -72,7 +72,7 @@ joined_new old new now key piece v taken none put few start joined is =
     joins_of old new now key piece taken
     (record { value = v; known = ap Some grown; put = put; few = few })
     (subst (λ (a : CoverValue). IsTaken a (known_with now piece (known_of (get key_cmp old key))).cover taken) (ap known_cover (sym before))
-        (subst (λ (b : CoverValue). IsTaken (Held no_facts) b taken) (ap (λ (k : Known). k.cover) grown) is))
+    (subst (λ (b : CoverValue). IsTaken (Held no_facts) b taken) (ap (λ (k : Known). k.cover) grown) is))
 
 -- ---- what is live
 
@@ -105,6 +105,7 @@ waits_more f g key piece live h p least charge room = record {
   where
     now : ℕ
     now = f.clock
+
     step : (k : Key) (b : Bool) → same_key key k ≡ b → known_of (cond b (Some p.value) (kept_at f k)) ≡ known_by (of_key k live ++ cond (same_key key k) (came_at f key piece ∷ []) [])
     step k true e =
         p.known
@@ -116,9 +117,11 @@ waits_more f g key piece live h p least charge room = record {
         h.known k
         ∙ ap known_by (sym (append-nil (of_key k live)))
         ∙ ap (λ (t : Bool). known_by (of_key k live ++ cond t (came_at f key piece ∷ []) [])) (sym e)
+
     first : (o : Option Waiting) → ((w : Waiting) → o ≡ Some w → f.earliest ≤ w.start) → known_of (Some p.value) ≡ Some (known_with f.clock piece (known_of o)) → min f.earliest f.clock ≤ p.value.start
     first None before e = let start = ap (λ (k : Known). k.start) (same_Some _ _ e) in omega (arith, start)
     first (Some w) before e = let start = ap (λ (k : Known). k.start) (same_Some _ _ e) in let most = before w refl in omega (arith, start, most)
+
     early : (k : Key) (w : Waiting) (b : Bool) → same_key key k ≡ b → cond b (Some p.value) (kept_at f k) ≡ Some w → g.earliest ≤ w.start
     early k w true e is =
         let same : p.value.start ≡ w.start = ap (λ (x : Waiting). x.start) (same_Some _ _ is) in

@@ -45,6 +45,7 @@ either_first key live one other = at (is_of key one) refl (is_of key other) refl
     two : (a b : Came) (s t : Bool) → is_of key a ≡ s → is_of key b ≡ t → cover_at key ((live ++ a ∷ []) ++ b ∷ [])
         ≡ cond t (with_piece (cond s (with_piece (cover_at key live) a.piece) (cover_at key live)) b.piece) (cond s (with_piece (cover_at key live) a.piece) (cover_at key live))
     two a b s t e f = cover_at-more key (live ++ a ∷ []) b t f ∙ ap (λ (c : CoverValue). cond t (with_piece c b.piece) c) (cover_at-more key live a s e)
+
     at : (s : Bool) → is_of key one ≡ s → (t : Bool) → is_of key other ≡ t → cover_at key ((live ++ one ∷ []) ++ other ∷ []) ≡ cover_at key ((live ++ other ∷ []) ++ one ∷ [])
     at true e true f = two one other true true e f ∙ turned (cover_at key live) one.piece other.piece ∙ sym (two other one true true f e)
     at true e false f = two one other true false e f ∙ sym (two other one false true f e)

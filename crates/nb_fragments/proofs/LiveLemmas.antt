@@ -1,13 +1,12 @@
 -- Live fragments, and what is kept of them.
-use Rattle.std.proofs.Common.{ℕ, ◌≡◌, ◌≤◌, ◌<◌, ◌+◌, refl, sym, subst, ◌∙◌, ap, arith, List, [], ◌∷◌, ◌++◌, map, filter, sum_by, ◌-◌, ◌^◌, length, Bool, true, false, cond, not, min, nat_le, Option, Some, None}
-use Rattle.std.proofs.lemmas.Bool.{leb-true, leb-false, le-leb, lt-leb}
+use Rattle.std.proofs.Common.{ℕ, ◌≡◌, ◌≤◌, ◌<◌, ◌+◌, refl, sym, subst, ◌∙◌, ap, arith, List, [], ◌∷◌, map, filter, sum_by, ◌-◌, ◌^◌, Bool, true, false, cond, not, min, Option, Some, None}
+use Rattle.std.proofs.lemmas.Bool.{leb-true, leb-false}
 use Rattle.std.proofs.lemmas.Option.{same_Some}
 use Rattle.std.proofs.lemmas.List.Sums.{sum_by-cons}
 use Rattle.std.specs.BTreeMap.{btree_map_len}
 use Rattle.std.specs.Map.{lookup}
-use Rattle.nb_entries.specs.Cover.{CoverValue}
 use Rattle.nb_fragments.specs.declared.key.Key.{Key}
-use Rattle.nb_fragments.specs.declared.limits.TheConstants.{KEYS, LIFETIME, ROOM}
+use Rattle.nb_fragments.specs.declared.limits.TheConstants.{LIFETIME, ROOM}
 use Rattle.nb_fragments.specs.declared.waiting.Waiting.{Waiting}
 use Rattle.nb_fragments.specs.declared.fragments.Fragments.{Fragments}
 use Rattle.nb_fragments.specs.Live.{Came, is_of, of_key, start_of, is_over, live_at}

@@ -1,5 +1,5 @@
 -- A fragment that comes: the clock goes on, and then the fragment is joined.
-use Rattle.std.proofs.Common.{ℕ, ◌≡◌, ◌≤◌, refl, sym, subst, ◌∙◌, ap, arith, List, Result, Ok, Err, OnErr, IfOk}
+use Rattle.std.proofs.Common.{◌≡◌, ◌≤◌, sym, subst, arith, List, Result, Ok, Err, OnErr, IfOk}
 use Rattle.nb_streams.specs.declared.bytes.NoMemory.{NoMemory}
 use Rattle.nb_datagram.specs.declared.limits.TheConstants.{MAX_LENGTH}
 use Rattle.nb_entries.specs.Piece.{PieceParts, piece_reach}

@@ -2,7 +2,7 @@
 --
 -- Our choice: the capture's clock shows the greatest time of a frame so far, and a frame without a time comes when it shows that. The
 -- first fragment of a packet starts its timer, and later ones leave it alone. Times are in nanoseconds.
-use Rattle.std.specs.Prelude.{ℕ, List, [], ◌∷◌, ◌++◌, ◌+◌, map, filter, max, not, Bool, false, nat_le, Option, Some, None}
+use Rattle.std.specs.Prelude.{ℕ, List, [], ◌∷◌, ◌+◌, map, filter, max, not, Bool, false, nat_le, Option, Some, None}
 use Rattle.nb_entries.specs.Piece.{PieceParts}
 use Rattle.nb_entries.specs.Cover.{CoverValue}
 use Rattle.nb_entries.specs.CoverChange.{cover_of_pieces}

@@ -1,5 +1,5 @@
 -- What a fragment makes of its packet.
-use Rattle.std.specs.Prelude.{◌≡◌, ◌≢◌, ◌≤◌, ◌<◌, ◌+◌, ◌⊎◌, ℕ, List, [], ◌∷◌, ◌++◌, length, true, is_some, Option, Some, None}
+use Rattle.std.specs.Prelude.{◌≡◌, ◌≢◌, ◌<◌, ◌+◌, ℕ, List, [], ◌∷◌, ◌++◌, length, true, is_some, Some, None}
 use Rattle.nb_datagram.specs.declared.limits.TheConstants.{MAX_LENGTH}
 use Rattle.nb_entries.specs.declared.slot.Slot.TheVariants.{Spoilt}
 use Rattle.nb_entries.specs.Piece.{PieceParts}
@@ -8,7 +8,6 @@ use Rattle.nb_entries.specs.CoverChange.{data_of}
 use Rattle.nb_frames.specs.declared.carried.IpFragment.{IpFragment}
 use Rattle.nb_fragments.specs.declared.taken.Taken.{Taken}
 use Rattle.nb_fragments.specs.declared.taken.Taken.TheVariants.{Whole, Kept, Again, Disagrees, LeftOut}
-use Rattle.nb_fragments.specs.declared.taken.Refusal.{Refusal}
 use Rattle.nb_fragments.specs.declared.taken.Refusal.TheVariants.{Cut, TooLong, TooMany}
 use Rattle.nb_fragments.specs.Keys.{key_of}
 use Rattle.nb_fragments.specs.Live.{Came, cover_at}

@@ -116,7 +116,14 @@ impl Fragments {
             return Ok(Taken::LeftOut(Refusal::TooMany));
         }
         let now = self.clock;
-        let taken = join_in(&mut self.waiting, self.alloc, now, key, piece, &mut self.used)?;
+        let taken = join_in(
+            &mut self.waiting,
+            self.alloc,
+            now,
+            key,
+            piece,
+            &mut self.used,
+        )?;
         self.earliest = self.earliest.min(now);
         Ok(taken)
     }

@@ -5,7 +5,6 @@ use Rattle.nb_entries.specs.Cover.{CoverValue}
 use Rattle.nb_entries.specs.CoverChange.{cover_of_pieces, no_facts, with_piece}
 use Rattle.nb_entries.specs.Piece.{PieceParts}
 use Rattle.nb_entries.specs.declared.slot.Slot.TheVariants.{Held}
-
 use Rattle.nb_fragments.specs.declared.taken.Taken.{Taken}
 use Rattle.nb_fragments.specs.declared.taken.Taken.TheVariants.{LeftOut}
 use Rattle.nb_fragments.specs.declared.taken.Refusal.TheVariants.{TooMany}

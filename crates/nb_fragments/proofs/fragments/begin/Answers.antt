@@ -1,4 +1,4 @@
-use Rattle.std.proofs.Common.{◌≡◌, ◌<◌, ◌∙◌, ap, arith, subst, Ok}
+use Rattle.std.proofs.Common.{◌<◌, ◌∙◌, ap, arith, subst, Ok}
 use Rattle.std.specs.BTreeMap.{btree_map_len}
 use Rattle.nb_entries.specs.Cover.{CoverValue}
 use Rattle.nb_entries.specs.CoverChange.{with_piece}

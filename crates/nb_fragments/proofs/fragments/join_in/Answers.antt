@@ -1,4 +1,4 @@
-use Rattle.std.proofs.Common.{◌≡◌, ◌∙◌, rules, arith, sym}
+use Rattle.std.proofs.Common.{rules, sym}
 use Rattle.nb_fragments.proofs.JoinLemmas.{charge_held, charge_kept, is_joined, joined_held, kept_held}
 use Rattle.nb_fragments.proofs.fragments.join_in.Goals as goal
 

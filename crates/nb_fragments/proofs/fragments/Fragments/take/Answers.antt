@@ -1,6 +1,5 @@
 use Rattle.std.proofs.Common.{◌≡◌, sym, subst, ap, length}
 use Rattle.std.proofs.lemmas.Bool.Decides.{not_from_Decides}
-use Rattle.nb_fragments.specs.Live.{Came}
 use Rattle.nb_fragments.specs.Taking.{came_now}
 use Rattle.nb_fragments.specs.Code.Kept.{IsFull, came_at, clock_of}
 use Rattle.nb_entries.specs.Piece.{PieceParts}

@@ -1,0 +1,5 @@
+mod KeyLemmas
+mod LiveLemmas
+mod JoinLemmas
+mod TakeLemmas
+mod LawLemmas

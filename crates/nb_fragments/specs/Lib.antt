@@ -1,0 +1,5 @@
+pub mod Keys
+pub mod KeyFacts
+pub mod Live
+pub mod Taking
+pub mod Code

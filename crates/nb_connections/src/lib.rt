@@ -1,0 +1,13 @@
+//! Connections of TCP: the session packets in the segments of a capture.
+#![tactic(auto)]
+
+mod channel;
+mod connections;
+mod cutting;
+mod ends;
+pub mod limits;
+mod taken;
+
+pub use connections::Connections;
+pub use ends::Ends;
+pub use taken::{LeftOut, Reason, Taken};

@@ -1,12 +1,12 @@
 -- What a channel keeps of its direction, after one more segment.
-use Rattle.std.proofs.Common.{ℕ, ◌≡◌, ◌+◌, ◌-◌, ◌*◌, ◌/◌, ◌%◌, ◌^◌, ◌<◌, ◌≤◌, Bool, true, false, IsTrue, List, [], ◌∷◌, ◌++◌, ◌⊎◌, inl, inr, length, take, drop, refl, sym, ap, subst, ◌∙◌, arith, append_assoc, Option, Some, None, MatchOption, cond, nat_eq}
+use Rattle.std.proofs.Common.{ℕ, ◌≡◌, ◌+◌, ◌-◌, ◌*◌, ◌/◌, ◌%◌, ◌^◌, ◌≤◌, Bool, true, false, IsTrue, List, [], ◌∷◌, ◌++◌, inl, inr, length, take, drop, refl, sym, ap, subst, ◌∙◌, arith, append_assoc, Option, Some, None, MatchOption, cond, nat_eq}
 use Rattle.std.proofs.Math.Nat.{mod-add-div', add-mul-mod_self_right}
 use Rattle.std.proofs.lemmas.List.{take-append-drop, take_rest}
-use Rattle.nb_session.specs.Cutting.{ArePackets, no_packet, BeginsWithNone}
+use Rattle.nb_session.specs.Cutting.{ArePackets, BeginsWithNone}
 use Rattle.nb_session.specs.Packet.{Packet}
 use Rattle.nb_session.specs.declared.limits.TheConstants.{HEADER_LENGTH}
-use Rattle.nb_tcp.specs.Order.{Segment, StandsAt, placed}
-use Rattle.nb_tcp.specs.Kept.{Kept, Orders}
+use Rattle.nb_tcp.specs.Order.{StandsAt, placed}
+use Rattle.nb_tcp.specs.Kept.{Orders}
 use Rattle.nb_tcp.specs.Takes.{Takes, segment_of}
 use Rattle.nb_tcp.specs.declared.limits.TheConstants.{START}
 use Rattle.nb_tcp.specs.declared.taken.Taken.{Taken}
@@ -14,9 +14,8 @@ use Rattle.nb_connections.specs.declared.channel.Channel.{Channel}
 use Rattle.nb_connections.specs.declared.channel.Closed.{Closed}
 use Rattle.nb_connections.specs.declared.channel.Closed.TheVariants.{Gap, BadHeader}
 use Rattle.nb_connections.specs.declared.cutting.Rest.{Rest}
-use Rattle.nb_connections.specs.declared.cutting.Rest.TheVariants.{Lacks, Refused}
-use Rattle.nb_connections.specs.Reading.{Reading, Seen, IsFront, HandsOn, ReadsOn, started, with_segment}
-use Rattle.nb_connections.specs.Course.{Course, State, Reads, AfterGap, AfterBadHeader, reading_at, begun, read, left_out, given_up}
+use Rattle.nb_connections.specs.Reading.{Reading, Seen, HandsOn, started, with_segment}
+use Rattle.nb_connections.specs.Course.{Course, State, Reads, AfterGap, AfterBadHeader, reading_at, read, left_out, given_up}
 use Rattle.nb_connections.specs.Channels.{Follows, IsGrown, Keeps, KeepsReading, ReadsTo}
 use Rattle.nb_connections.specs.Rests.{Closes, StandsAfter}
 use Rattle.nb_connections.proofs.CutLemmas.{joined}
@@ -156,17 +155,17 @@ abbrev pub IsClosed : Channel → Option Closed → Channel → Type 0
 IsClosed channel None final = final ≡ channel
 IsClosed channel (Some closed) final = final.closed ≡ Some closed
 
-pub ends : (channel final : Channel) (old new : Reading) (one : Seen) (place : ℕ) (rest : Rest) (count : ℕ) (is_missing : Bool) (closed : Option Closed) → count ≡ length channel.held.items
+pub ends : (channel final : Channel) (old new : Reading) (one : Seen) (place : ℕ) (rest : Rest) (count : ℕ) (is_missing is_full : Bool) (closed : Option Closed) → count ≡ length channel.held.items
     → StandsAt old.first (START + length old.out) one.number place → HandsOn (with_segment old place one) one.packets new → KeepsReading channel new
-    → StandsAfter new.held rest → Closes rest count one.number one.bytes is_missing closed
+    → StandsAfter new.held rest → Closes rest count one.number one.bytes is_missing is_full closed
     → (IsTrue is_missing → channel.direction.handed ≡ place + length one.bytes) → IsClosed channel closed final → ReadsTo old one final
-ends channel final old new one place rest count is_missing None long stands hands keeps after closes missing is =
+ends channel final old new one place rest count is_missing is_full None long stands hands keeps after closes missing is =
     inl (new, Reads new, record { place = place; stands = stands; handed = hands }, (closes.0, refl, subst (StandsAfter new.held) closes.1 after), subst (λ (ch : Channel). KeepsReading ch new) (sym is) keeps)
-ends channel final old new one place rest count is_missing (Some BadHeader) long stands hands keeps after closes missing is =
+ends channel final old new one place rest count is_missing is_full (Some BadHeader) long stands hands keeps after closes missing is =
     inl (new, AfterBadHeader, record { place = place; stands = stands; handed = hands }, (closes.0, subst (StandsAfter new.held) closes.1 after), is)
-ends channel final old new one place rest count is_missing (Some (Gap None)) long stands hands keeps after closes missing is =
+ends channel final old new one place rest count is_missing is_full (Some (Gap None)) long stands hands keeps after closes missing is =
     inl (new, AfterGap None, record { place = place; stands = stands; handed = hands }, tt, is)
-ends channel final old new one place rest count is_missing (Some (Gap (Some end))) long stands hands keeps after closes missing is =
+ends channel final old new one place rest count is_missing is_full (Some (Gap (Some end))) long stands hands keeps after closes missing is =
     let needed = closes.2 in
     let at : START + length new.out ≡ place + length one.bytes = sym keeps.orders.reached ∙ missing closes.0 in
     let e : end ≡ (new.first + (START + length new.out) + needed) % 2 ^ 32 =

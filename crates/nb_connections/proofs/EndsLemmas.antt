@@ -1,5 +1,5 @@
 -- Ends that tie are one.
-use Rattle.std.proofs.Common.{ℕ, ◌≡◌, refl, List, true}
+use Rattle.std.proofs.Common.{◌≡◌, refl, true}
 use Rattle.std.specs.Ordering.{ordering_then}
 use Rattle.std.specs.Cmp.{Equal-is}
 use Rattle.std.specs.FinMap.{IsAntisymmetric, nat_cmp-IsAntisymmetric, slice_cmp-IsAntisymmetric}

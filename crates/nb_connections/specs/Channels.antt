@@ -1,7 +1,8 @@
 -- What is kept of a direction.
-use Rattle.std.specs.Prelude.{ℕ, ◌≡◌, ◌==◌, ◌&&◌, Bool, not, List, [], ◌++◌, ◌⊎◌, Option, Some, None}
+use Rattle.std.specs.Prelude.{ℕ, ◌≡◌, ◌==◌, ◌&&◌, Bool, not, List, [], ◌++◌, ◌⊎◌, Some, None, ◌+◌, length}
 use Rattle.nb_session.specs.Cutting.{ArePackets}
 use Rattle.nb_tcp.specs.Kept.{Orders}
+use Rattle.nb_tcp.specs.Runs.{charge_of}
 use Rattle.nb_tcp.specs.declared.limits.TheConstants.{START}
 use Rattle.nb_connections.specs.declared.channel.Channel.{Channel}
 use Rattle.nb_connections.specs.declared.channel.Closed.TheVariants.{Gap, BadHeader}
@@ -42,3 +43,7 @@ begins first opens number = opens && not (number == first)
 -- IsGrown channel direction: a channel follows a direction, as the number of its first byte and its segments since it began
 abbrev pub IsGrown : Channel → ℕ × List Seen → Type 0
 IsGrown channel direction = (channel.first ≡ direction.0) × Follows channel direction.1
+
+-- how much a channel keeps, in bytes: what waits, what was handed on last, and the rest that is in no packet
+abbrev pub kept_of : Channel → ℕ
+kept_of channel = charge_of channel.direction.runs + length channel.held.items

@@ -1,13 +1,15 @@
 -- The directions of a capture: which segments are of which, and where each begins.
-use Rattle.std.specs.Prelude.{ℕ, ◌≡◌, ◌==◌, ◌+◌, ◌-◌, ◌%◌, ◌^◌, ◌⊎◌, Bool, not, min, cond, List, [], ◌∷◌, ◌++◌, filter, fold, bit_and, Option, Some, None}
+use Rattle.std.specs.Prelude.{ℕ, ◌≡◌, ◌≤◌, ◌==◌, ◌+◌, ◌-◌, ◌%◌, ◌^◌, ◌⊎◌, Bool, not, min, cond, List, [], ◌∷◌, ◌++◌, filter, fold, bit_and, Option, Some, None}
 use Rattle.std.specs.BTreeMap.{get}
 use Rattle.nb_frames.specs.declared.carried.TcpSegment.{TcpSegment}
 use Rattle.nb_session.specs.Cutting.{ArePackets}
 use Rattle.nb_session.specs.Packet.{Packet}
+use Rattle.nb_connections.specs.declared.limits.TheConstants.{MAX_KEPT}
 use Rattle.nb_connections.specs.declared.channel.Channel.{Channel}
 use Rattle.nb_connections.specs.declared.connections.Connections.{Connections}
+use Rattle.nb_connections.specs.declared.piece.Piece.{Piece}
 use Rattle.nb_connections.specs.declared.ends.Ends.{Ends}
-use Rattle.nb_connections.specs.Channels.{IsGrown, begins}
+use Rattle.nb_connections.specs.Channels.{IsGrown, begins, kept_of}
 use Rattle.nb_connections.specs.Ends.{ends_cmp, same_ends}
 use Rattle.nb_connections.specs.Reading.{Seen}
 
@@ -69,21 +71,34 @@ ends_of segment = record {
   destination_port = segment.ports.destination;
 }
 
--- came_at ends opens number bytes numbers packets: a segment of these ends came, with these packets
-abbrev pub came_at : Ends → Bool → ℕ → List ℕ → ℕ → List Packet → Came
-came_at ends opens number bytes numbers packets = record {
+-- came_of ends opens number bytes numbers packets: a segment of these ends came, with these packets
+abbrev pub came_of : Ends → Bool → ℕ → List ℕ → ℕ → List Packet → Came
+came_of ends opens number bytes numbers packets = record {
   ends = ends;
   opens = opens;
   seen = record { number = number; bytes = bytes; numbers = numbers; packets = packets };
 }
 
+-- the same, where a segment has this of its direction
+abbrev pub came_at : Ends → Bool → Piece → List Packet → Came
+came_at ends opens piece = came_of ends opens piece.number piece.bytes.now piece.numbers
+
 -- came segment packets: a segment, as it came, with the packets that are answered for it
 abbrev pub came : TcpSegment → List Packet → Came
 came segment =
-    came_at (ends_of segment) (has segment.flags.0 2) (first_number segment.sequence (has segment.flags.0 2)) segment.payload.bytes
+    came_of (ends_of segment) (has segment.flags.0 2) (first_number segment.sequence (has segment.flags.0 2)) segment.payload.bytes
     (numbers_of segment.payload.wire_length (has segment.flags.0 1))
 
 -- Takes old came new: a segment is taken, and the packets are ready that are answered for it; or it isn't taken, and none are
 abbrev pub Takes : Connections → (List Packet → Came) → Connections → Type 0
 Takes old came new = (all : List Came) → Knows old all → (packets : List Packet) × ArePackets packets new.ready.items
     × (Knows new (all ++ came packets ∷ []) ⊎ (Knows new all × (packets ≡ [])))
+
+-- how much directions keep together
+abbrev pub kept_in : List (Ends × Channel) → ℕ
+kept_in [] = 0
+kept_in (entry ∷ entries) = kept_of entry.1 + kept_in entries
+
+-- what is kept is counted, and bounded
+abbrev pub IsBounded : Connections → Type 0
+IsBounded connections = (connections.kept ≡ kept_in connections.channels.entries) × (connections.kept ≤ MAX_KEPT)

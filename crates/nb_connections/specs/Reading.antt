@@ -1,7 +1,8 @@
 -- What is read of one direction: its bytes in order, and the packets that they are.
-use Rattle.std.specs.Prelude.{ℕ, ◌≡◌, ◌+◌, ◌<◌, List, [], ◌∷◌, ◌++◌, length, Option, Some, None, slice_index}
+use Rattle.std.specs.Prelude.{ℕ, ◌≡◌, ◌+◌, ◌<◌, List, [], ◌∷◌, ◌++◌, length, Some, None, slice_index}
 use Rattle.nb_session.specs.Cutting.{IsCut}
 use Rattle.nb_session.specs.Packet.{Packet}
+use Rattle.nb_connections.specs.declared.piece.Piece.{Piece}
 use Rattle.nb_tcp.specs.Order.{Segment, StandsAt, placed}
 use Rattle.nb_tcp.specs.Takes.{segment_of}
 use Rattle.nb_tcp.specs.declared.limits.TheConstants.{START}
@@ -13,6 +14,10 @@ pub record Seen : Type 0 where
   pub bytes : List ℕ
   pub numbers : ℕ
   pub packets : List Packet
+
+-- what is seen of a segment for which these packets are answered
+abbrev pub seen_of : Piece → List Packet → Seen
+seen_of piece packets = record { number = piece.number; bytes = piece.bytes.now; numbers = piece.numbers; packets = packets }
 
 -- a direction that is read from the byte with the number first on: its segments, at their places; those of their bytes that are in order;
 -- the packets that these are, and the rest that they leave

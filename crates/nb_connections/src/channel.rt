@@ -1,14 +1,16 @@
 //! One direction of a connection.
-ghost use Rattle.std.specs.Prelude.{◌≡◌, ◌+◌, ◌<◌, ◌++◌, ◌∷◌, [], ℕ, List, length, max, MatchOption, IsTrue, false, None, Some, IfOk, cond};
+ghost use Rattle.std.specs.Prelude.{◌≡◌, ◌+◌, ◌<◌, ◌≤◌, ◌++◌, ◌∷◌, [], ℕ, List, length, max, MatchOption, IsTrue, false, None, Some, IfOk, cond};
 ghost use Rattle.nb_session.specs.Cutting.{ArePackets};
 ghost use Rattle.nb_session.specs.Packet.{Packet};
-ghost use Rattle.nb_connections.specs.Channels.{begins, Follows, IsGrown, Keeps, KeepsReading, ReadsTo};
+ghost use Rattle.nb_connections.specs.Channels.{kept_of, begins, Follows, IsGrown, Keeps, KeepsReading, ReadsTo};
 ghost use Rattle.nb_connections.specs.declared.channel.Closed.TheVariants.{Gap};
 ghost use Rattle.nb_connections.specs.Course.{State, reading_at};
-ghost use Rattle.nb_connections.specs.Reading.{HandsOn, Reading, Seen};
+ghost use Rattle.nb_connections.specs.Reading.{HandsOn, Reading, Seen, seen_of};
 ghost use Rattle.nb_connections.specs.Rests.{Closes, StandsAfter};
 
 use crate::cutting::{Rest, whole_packets};
+use crate::limits::MAX_KEPT;
+use crate::piece::Piece;
 use crate::taken::{LeftOut, Reason, Taken};
 use nb_session::limits::{HEADER_LENGTH, MAX_PACKET};
 use nb_streams::NoMemory;
@@ -57,6 +59,7 @@ impl Channel {
     pub(crate) fn new(alloc: Global, first: u32) -> Channel
         ensures first { result.first ≡ first }
         ensures follows { Follows result [] }
+        ensures kept { kept_of result ≡ 0 }
     {
         Channel {
             first,
@@ -72,6 +75,7 @@ impl Channel {
         ensures reads { (state : State) → Keeps self.old state → MatchOption (reading_at state number)
             ((result ≡ false) × (self.new ≡ self.old))
             (λ reading. IsTrue result × KeepsReading self.new reading) }
+        ensures kept { kept_of self.new ≤ kept_of self.old }
     {
         let Some(closed) = self.closed else {
             return true;
@@ -89,6 +93,7 @@ impl Channel {
     fn close(&mut self, alloc: Global, closed: Closed)
         ensures first { self.new.first ≡ self.old.first }
         ensures closed { self.new.closed ≡ Some closed }
+        ensures kept { kept_of self.new ≡ 0 }
     {
         self.closed = Some(closed);
         self.direction = Direction::new(alloc, 0);
@@ -101,25 +106,22 @@ impl Channel {
         &mut self,
         alloc: Global,
         opens: bool,
-        number: u32,
-        bytes: &[u8],
-        numbers: u32,
-        is_cut: bool,
+        piece: &Piece<'_>,
+        room: usize,
         ready: &mut Vec<u8>,
     ) -> Result<Taken, NoMemory>
-        ensures { (seen : List Seen) → Follows self.old seen → (packets : List Packet)
+        ensures follows { (seen : List Seen) → Follows self.old seen → (packets : List Packet)
             × ArePackets packets ready.new.items
-            × IsGrown self.new (cond (begins self.old.first opens number)
-                (number, record { number = number; bytes = bytes.now; numbers = numbers;
-                    packets = packets } ∷ [])
-                (self.old.first, seen ++ (record { number = number; bytes = bytes.now;
-                    numbers = numbers; packets = packets }) ∷ [])) }
+            × IsGrown self.new (cond (begins self.old.first opens piece.now.number)
+                (piece.now.number, seen_of piece.now packets ∷ [])
+                (self.old.first, seen ++ (seen_of piece.now packets) ∷ [])) }
+        ensures kept { kept_of self.old ≤ room → kept_of self.new ≤ room }
     {
-        if self.begins_anew(opens, number) {
-            *self = Channel::new(alloc, number);
-            return self.take(alloc, number, bytes, numbers, is_cut, ready);
+        if self.begins_anew(opens, piece.number) {
+            *self = Channel::new(alloc, piece.number);
+            return self.take(alloc, piece, room, ready);
         }
-        self.take(alloc, number, bytes, numbers, is_cut, ready)
+        self.take(alloc, piece, room, ready)
     }
 
     /// Whether the direction begins anew with a segment.
@@ -132,9 +134,8 @@ impl Channel {
         number != self.first
     }
 
-    /// Takes a segment: the number of its first byte, its bytes as far as they are captured, how many
-    /// numbers it takes on the wire, and whether some of its bytes aren't captured. The packets that
-    /// it completes are put in `ready`, one after another.
+    /// Takes a segment. The packets that it completes are put in `ready`, one after another. No more
+    /// is kept then than there is room for.
     ///
     /// # Errors
     ///
@@ -142,29 +143,27 @@ impl Channel {
     pub(crate) fn take(
         &mut self,
         alloc: Global,
-        number: u32,
-        bytes: &[u8],
-        numbers: u32,
-        is_cut: bool,
+        piece: &Piece<'_>,
+        room: usize,
         ready: &mut Vec<u8>,
     ) -> Result<Taken, NoMemory>
         ensures first { self.new.first ≡ self.old.first }
         ensures follows { (seen : List Seen) → Follows self.old seen → (packets : List Packet)
             × ArePackets packets ready.new.items
-            × Follows self.new (seen ++ (record { number = number; bytes = bytes.now;
-                numbers = numbers; packets = packets }) ∷ []) }
+            × Follows self.new (seen ++ (seen_of piece.now packets) ∷ []) }
+        ensures kept { kept_of self.old ≤ room → kept_of self.new ≤ room }
     {
-        if !self.reads_at(alloc, number) {
+        if !self.reads_at(alloc, piece.number) {
             ready.clear();
             return Ok(Taken {
                 left_out: Some(LeftOut {
                     reason: self.reason(),
-                    count: bytes.len(),
+                    count: piece.bytes.len(),
                 }),
                 differs: false,
             });
         }
-        self.read(alloc, number, bytes, numbers, is_cut, ready)
+        self.read(alloc, piece, room, ready)
     }
 
     /// Why nothing is handed on.
@@ -179,26 +178,24 @@ impl Channel {
     fn read(
         &mut self,
         alloc: Global,
-        number: u32,
-        bytes: &[u8],
-        numbers: u32,
-        is_cut: bool,
+        piece: &Piece<'_>,
+        room: usize,
         ready: &mut Vec<u8>,
     ) -> Result<Taken, NoMemory>
         ensures first { self.new.first ≡ self.old.first }
         ensures reads { (old : Reading) → KeepsReading self.old old → (packets : List Packet)
             × ArePackets packets ready.new.items
-            × ReadsTo old (record { number = number; bytes = bytes.now; numbers = numbers;
-                packets = packets }) self.new }
+            × ReadsTo old (seen_of piece.now packets) self.new }
+        ensures kept { kept_of self.new ≤ room }
     {
-        let taken = self.direction.take(alloc, number, bytes, numbers);
+        let taken = self.direction.take(alloc, piece.number, piece.bytes, piece.numbers);
         if taken.refusal.is_some() {
             self.close(alloc, Closed::Gap(None));
             ready.clear();
             return Ok(Taken {
                 left_out: Some(LeftOut {
                     reason: Reason::Gap,
-                    count: bytes.len(),
+                    count: piece.bytes.len(),
                 }),
                 differs: taken.differs,
             });
@@ -208,8 +205,10 @@ impl Channel {
             ready.clear();
             return Err(NoMemory);
         };
-        let is_missing = ends_at(self.direction.handed(), taken.place, bytes, is_cut);
-        let left_out = match closed_by(rest, self.held.len(), number, bytes, is_missing) {
+        self.spare(room);
+        let is_missing = ends_at(self.direction.handed(), taken.place, piece);
+        let is_full = room < self.kept();
+        let left_out = match closed_by(rest, self.held.len(), piece, is_missing, is_full) {
             Some(closed) => {
                 let count = self.held.len();
                 self.close(alloc, closed);
@@ -224,6 +223,24 @@ impl Channel {
             left_out,
             differs: taken.differs,
         })
+    }
+
+    /// Forgets what was handed on, where no more than half the room of all directions is left.
+    fn spare(&mut self, room: usize)
+        ensures first { self.new.first ≡ self.old.first }
+        ensures reads { (reading : Reading) → KeepsReading self.old reading →
+            KeepsReading self.new reading }
+    {
+        if room < MAX_KEPT / 2 {
+            self.direction.forget();
+        }
+    }
+
+    /// How much it keeps, in bytes.
+    pub(crate) fn kept(&self) -> usize
+        ensures { result ≡ kept_of self.now }
+    {
+        self.direction.kept() + self.held.len()
     }
 
     /// Hands on what is in order: the packets that it completes are put in `ready`, and the rest is
@@ -249,25 +266,25 @@ impl Channel {
 
 /// Whether bytes are missing where a direction was handed on: those after the bytes of a segment at
 /// a place, which is cut.
-fn ends_at(handed: u64, place: u64, bytes: &[u8], is_cut: bool) -> bool
-    ensures { IsTrue result → handed ≡ place + length bytes.now }
+fn ends_at(handed: u64, place: u64, piece: &Piece<'_>) -> bool
+    ensures { IsTrue result → handed ≡ place + length piece.now.bytes.now }
 {
-    if !is_cut || handed < place {
+    if !piece.is_cut || handed < place {
         return false;
     }
-    handed - place == bytes.len() as u64
+    handed - place == piece.bytes.len() as u64
 }
 
-/// What ends the reading of a direction of which this rest is held, of so many bytes, where bytes
-/// are missing after those of this segment, if some are.
+/// What ends the reading of a direction of which this rest is held, of so many bytes: that bytes are
+/// missing after those of this segment, or that no room is left.
 fn closed_by(
     rest: Rest,
     held: usize,
-    number: u32,
-    bytes: &[u8],
+    piece: &Piece<'_>,
     is_missing: bool,
+    is_full: bool,
 ) -> Option<Closed>
-    ensures { Closes rest held number bytes.now is_missing result }
+    ensures { Closes rest held piece.now.number piece.now.bytes.now is_missing is_full result }
 {
     match rest {
         Rest::Refused(_) => Some(Closed::BadHeader),
@@ -275,9 +292,10 @@ fn closed_by(
             if held < HEADER_LENGTH || MAX_PACKET < needed {
                 return Some(Closed::Gap(None));
             }
-            let end = (u64::from(number) + bytes.len() as u64 + needed as u64) % SPACE;
+            let end = (u64::from(piece.number) + piece.bytes.len() as u64 + needed as u64) % SPACE;
             Some(Closed::Gap(Some(end as u32)))
         }
+        Rest::Lacks(_) if is_full => Some(Closed::Gap(None)),
         Rest::Lacks(_) => None,
     }
 }

@@ -1,13 +1,15 @@
 //! All connections of a capture.
-ghost use Rattle.std.specs.Prelude.{◌≡◌, [], OnErr, OnOk, Some, cond};
+ghost use Rattle.std.specs.Prelude.{◌≡◌, ◌+◌, None, [], OnErr, OnOk, Some, cond};
 ghost use Rattle.std.specs.BTreeMap.{get};
-ghost use Rattle.nb_connections.specs.Directions.{Knows, Takes, came, came_at, ends_of, first_number, has, numbers_of};
+ghost use Rattle.nb_connections.specs.Directions.{IsBounded, Knows, Takes, kept_in, came, came_at, ends_of, first_number, has, numbers_of};
+ghost use Rattle.nb_connections.specs.Channels.{kept_of};
 ghost use Rattle.nb_connections.specs.Ends.{ends_cmp, same_ends};
 ghost use Rattle.nb_connections.specs.declared.ends.Ends.{Ends as EndsValue};
 
 use crate::channel::Channel;
 use crate::ends::Ends;
-use crate::limits::MAX_DIRECTIONS;
+use crate::limits::{MAX_DIRECTIONS, MAX_KEPT};
+use crate::piece::Piece;
 use crate::taken::{LeftOut, Reason, Taken};
 use nb_frames::{TcpFlags, TcpSegment};
 use nb_session::limits::HEADER_LENGTH;
@@ -20,6 +22,8 @@ use std::collections::BTreeMap;
 pub struct Connections {
     alloc: Global,
     channels: BTreeMap<Ends, Channel>,
+    /// How much they keep together, in bytes.
+    kept: usize,
     /// The packets that the last segment completed, one after another.
     ready: Vec<u8>,
 }
@@ -29,10 +33,12 @@ impl Connections {
     pub fn new(alloc: Global) -> Connections
         ensures knows { Knows result [] }
         ensures ready { result.ready.items ≡ [] }
+        ensures bounded { IsBounded result }
     {
         Connections {
             alloc,
             channels: BTreeMap::new(alloc),
+            kept: 0,
             ready: Vec::new(alloc),
         }
     }
@@ -51,21 +57,21 @@ impl Connections {
     /// [`NoMemory`] where memory ran out. Nothing more is handed on of its direction then, until it
     /// begins anew.
     pub fn take(&mut self, segment: &TcpSegment<'_>) -> Result<Taken, NoMemory>
-        ensures { Takes self.old (came segment.now) self.new }
+        ensures takes { Takes self.old (came segment.now) self.new }
+        ensures bounded { IsBounded self.old → IsBounded self.new }
     {
         let bytes = segment.payload.bytes();
         if has(segment.flags, RST) {
             return Ok(self.leave_out(Reason::Reset, bytes));
         }
         let opens = has(segment.flags, SYN);
-        self.enter(
-            ends_of(segment),
-            opens,
-            first_number(segment.sequence, opens),
+        let piece = Piece {
+            number: first_number(segment.sequence, opens),
             bytes,
-            numbers_of(segment.payload.wire_len(), has(segment.flags, FIN)),
-            segment.payload.is_cut(),
-        )
+            numbers: numbers_of(segment.payload.wire_len(), has(segment.flags, FIN)),
+            is_cut: segment.payload.is_cut(),
+        };
+        self.enter(ends_of(segment), opens, &piece)
     }
 
     /// Takes a segment between these ends.
@@ -73,29 +79,34 @@ impl Connections {
         &mut self,
         ends: Ends,
         opens: bool,
-        number: u32,
-        bytes: &[u8],
-        numbers: u32,
-        is_cut: bool,
+        piece: &Piece<'_>,
     ) -> Result<Taken, NoMemory>
-        ensures { Takes self.old (came_at ends opens number bytes.now numbers) self.new }
+        ensures takes { Takes self.old (came_at ends opens piece.now) self.new }
+        ensures bounded { IsBounded self.old → IsBounded self.new }
     {
         match self.channels.get_mut(&ends) {
             Some(channel) => {
-                let ready = &mut self.ready;
-                return channel.receive(self.alloc, opens, number, bytes, numbers, is_cut, ready);
+                let before = channel.kept();
+                let others = self.kept.saturating_sub(before);
+                let room = MAX_KEPT.saturating_sub(others);
+                let taken = channel.receive(self.alloc, opens, piece, room, &mut self.ready);
+                self.kept = others.saturating_add(channel.kept());
+                return taken;
             }
             None => {}
         }
-        if !may_begin(opens, bytes) {
-            return Ok(self.leave_out(Reason::NoStart, bytes));
+        if !may_begin(opens, piece.bytes) {
+            return Ok(self.leave_out(Reason::NoStart, piece.bytes));
         }
         if self.channels.len() >= MAX_DIRECTIONS {
-            return Ok(self.leave_out(Reason::TooMany, bytes));
+            return Ok(self.leave_out(Reason::TooMany, piece.bytes));
         }
-        let mut channel = Channel::new(self.alloc, number);
-        let taken = channel.take(self.alloc, number, bytes, numbers, is_cut, &mut self.ready);
+        let mut channel = Channel::new(self.alloc, piece.number);
+        let room = MAX_KEPT.saturating_sub(self.kept);
+        let taken = channel.take(self.alloc, piece, room, &mut self.ready);
+        let kept = channel.kept();
         self.admit(ends, channel)?;
+        self.kept = self.kept.saturating_add(kept);
         taken
     }
 
@@ -111,6 +122,10 @@ impl Connections {
         ensures err { OnErr result ((q : EndsValue) → get ends_cmp self.new.channels q
             ≡ get ends_cmp self.old.channels q) }
         ensures none { OnErr result (self.new.ready.items ≡ []) }
+        ensures kept { self.new.kept ≡ self.old.kept }
+        ensures sum { OnOk result (get ends_cmp self.old.channels ends ≡ None →
+            kept_in self.new.channels.entries ≡ kept_in self.old.channels.entries + kept_of channel) }
+        ensures same { OnErr result (self.new.channels.entries ≡ self.old.channels.entries) }
     {
         match self.channels.insert(ends, channel) {
             Ok(_) => Ok(()),
@@ -125,6 +140,7 @@ impl Connections {
     fn leave_out(&mut self, reason: Reason, bytes: &[u8]) -> Taken
         ensures channels { self.new.channels ≡ self.old.channels }
         ensures ready { self.new.ready.items ≡ [] }
+        ensures kept { self.new.kept ≡ self.old.kept }
     {
         self.ready.clear();
         Taken {

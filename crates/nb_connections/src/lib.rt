@@ -6,6 +6,7 @@ mod connections;
 mod cutting;
 mod ends;
 pub mod limits;
+mod piece;
 mod taken;
 
 pub use connections::Connections;

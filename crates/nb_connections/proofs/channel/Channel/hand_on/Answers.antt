@@ -1,9 +1,7 @@
-use Rattle.std.proofs.Common.{ℕ, ◌≡◌, drop, take, refl, sym, ap, subst, ◌∙◌, arith, rules, List, [], ◌∷◌, ◌++◌, inl, inr, Some, None}
+use Rattle.std.proofs.Common.{ℕ, ◌≡◌, drop, take, refl, sym, ap, subst, ◌∙◌, rules, List, [], ◌++◌}
 use Rattle.nb_session.specs.Cutting.{ArePackets, BeginsWithNone}
 use Rattle.nb_connections.specs.Rests.{StandsAfter}
-use Rattle.nb_connections.specs.Reading.{Reading, Seen, started, with_segment}
-use Rattle.nb_connections.specs.Course.{Reads, begun}
-use Rattle.nb_connections.proofs.ChannelLemmas.{restarts, left, follows_on, took, stood, handed_on, held_is}
+use Rattle.nb_connections.proofs.ChannelLemmas.{handed_on, held_is}
 use Rattle.nb_connections.proofs.channel.Channel.hand_on.Goals as goal
 
 pub returns-clause-hands_on : goal.returns-clause-hands_on

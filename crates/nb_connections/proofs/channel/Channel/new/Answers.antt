@@ -1,8 +1,7 @@
-use Rattle.std.proofs.Common.{ℕ, ◌≡◌, refl, sym, ap, subst, ◌∙◌, arith, rules, List, [], ◌∷◌, ◌++◌, inl, inr, Some, None}
-use Rattle.nb_session.specs.Cutting.{ArePackets, no_packet}
-use Rattle.nb_connections.specs.Reading.{Reading, Seen, started, with_segment}
+use Rattle.std.proofs.Common.{refl, []}
+use Rattle.nb_session.specs.Cutting.{no_packet}
+use Rattle.nb_connections.specs.Reading.{started}
 use Rattle.nb_connections.specs.Course.{Reads, begun}
-use Rattle.nb_connections.proofs.ChannelLemmas.{restarts, left, follows_on, took, stood, handed_on, ends}
 use Rattle.nb_connections.proofs.channel.Channel.new.Goals as goal
 
 pub returns-clause-follows : goal.returns-clause-follows

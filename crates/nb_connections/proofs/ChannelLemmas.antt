@@ -172,8 +172,13 @@ ends channel final old new one place rest count is_missing is_full (Some (Gap (S
     ends_there old.first place one.number (length one.bytes) needed end stands.number closes.4
     ∙ ap (λ (n : ℕ). (n + (place + length one.bytes) + needed) % 2 ^ 32) (sym hands.first)
     ∙ ap (λ (n : ℕ). (new.first + n + needed) % 2 ^ 32) (sym at) in
-    inl (new, AfterGap (Some end), record { place = place; stands = stands; handed = hands },
-    (needed, subst (λ (n : ℕ). HEADER_LENGTH ≤ n) (long ∙ ap length keeps.held) closes.1, subst (StandsAfter new.held) closes.3 after, e), is)
+    inl (
+      new,
+      AfterGap (Some end),
+      record { place = place; stands = stands; handed = hands },
+      (needed, subst (λ (n : ℕ). HEADER_LENGTH ≤ n) (long ∙ ap length keeps.held) closes.1, subst (StandsAfter new.held) closes.3 after, e),
+      is,
+    )
 
 -- what is put after nothing
 pub held_is : (new before row : List ℕ) (end : ℕ) → new ≡ before ++ take (length row - end) (drop end row) → before ≡ [] → new ≡ drop end row

@@ -4,6 +4,8 @@ use Rattle.std.proofs.lemmas.List.Elements.{filter-append}
 use Rattle.std.proofs.lemmas.List.Sums.{fold-append}
 use Rattle.nb_connections.specs.declared.channel.Channel.{Channel}
 use Rattle.nb_connections.specs.declared.ends.Ends.{Ends}
+use Rattle.std.specs.Cmp.{eq_by_cmp_equiv}
+use Rattle.nb_connections.specs.EndsFacts.{ends_cmp_total}
 use Rattle.std.specs.BTreeMap.{get, insert_entry, is_at}
 use Rattle.std.specs.Map.{lookup, set_value}
 use Rattle.std.specs.declared.cmp.Ordering.{Ordering}
@@ -62,7 +64,7 @@ takes_none old new one same ready = λ all knows. ([], subst (ArePackets []) (sy
 abbrev pub Receives : Channel → Channel → Bool → ℕ → List ℕ → ℕ → List ℕ → Type 0
 Receives was new opens number bytes numbers ready = (seen : List Seen) → Follows was seen → (packets : List Packet) × ArePackets packets ready
     × IsGrown new (cond (begins was.first opens number) (number, (record { number = number; bytes = bytes; numbers = numbers; packets = packets }) ∷ [])
-        (was.first, seen ++ (record { number = number; bytes = bytes; numbers = numbers; packets = packets }) ∷ []))
+    (was.first, seen ++ (record { number = number; bytes = bytes; numbers = numbers; packets = packets }) ∷ []))
 
 grown_own : (old : Option Channel) (was new : Channel) (direction : Option (ℕ × List Seen)) (ends : Ends) (opens : Bool) (number : ℕ) (bytes : List ℕ) (numbers : ℕ)
     (ready : List ℕ) → old ≡ Some was → IsKept old direction → Receives was new opens number bytes numbers ready
@@ -89,11 +91,14 @@ begun_own old channel (Some direction) one e kept first follows = absurd (subst 
 pub takes_begun : (old new : Connections) (channel : Channel) (ends : Ends) (opens : Bool) (number : ℕ) (bytes : List ℕ) (numbers : ℕ)
     → at old ends ≡ None → ((e : Ends) → at new e ≡ cond (same_ends ends e) (Some channel) (at old e)) → channel.first ≡ number
     → ((packets : List Packet) × ArePackets packets new.ready.items
-        × Follows channel ((record { number = number; bytes = bytes; numbers = numbers; packets = packets }) ∷ []))
+    × Follows channel ((record { number = number; bytes = bytes; numbers = numbers; packets = packets }) ∷ []))
     → Takes old (came_of ends opens number bytes numbers) new
-takes_begun old new channel ends opens number bytes numbers none is first got = λ all knows.
-    (got.0, got.1, inl (known_on (at old) (at new) channel all (came_of ends opens number bytes numbers got.0) is
-    (begun_own (at old ends) channel (since (filter (is_of ends) all)) (came_of ends opens number bytes numbers got.0) none (knows ends) first got.2) knows))
+takes_begun old new channel ends opens number bytes numbers none is first got = λ all knows. (
+  got.0,
+  got.1,
+  inl (known_on (at old) (at new) channel all (came_of ends opens number bytes numbers got.0) is
+      (begun_own (at old ends) channel (since (filter (is_of ends) all)) (came_of ends opens number bytes numbers got.0) none (knows ends) first got.2) knows),
+)
 
 -- a segment whose parts are these
 pub takes_same : (old new : Connections) (ends ends' : Ends) (opens opens' : Bool) (number number' : ℕ) (bytes bytes' : List ℕ) (numbers numbers' : ℕ)
@@ -165,3 +170,10 @@ pub bounded_new : (total kept empty new room result : ℕ) → kept ≡ total �
 bounded_new total kept empty new room result e most r z fits is =
     let n = fits (omega (arith, z)) in
     (omega (arith, e, n, r, is, most), omega (arith, e, n, r, is, most))
+
+-- ---- a segment of which nothing is left out
+pub same_self : (ends : Ends) → same_ends ends ends ≡ true
+same_self ends = (eq_by_cmp_equiv ends_cmp_total).refl ends
+
+pub some_left : {A B : Type 0} (o : Option A) (x : A) → o ≡ Some x → o ≡ None → B
+some_left o x e none = absurd (cc)

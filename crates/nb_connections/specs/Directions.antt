@@ -102,3 +102,7 @@ kept_in (entry ∷ entries) = kept_of entry.1 + kept_in entries
 -- what is kept is counted, and bounded
 abbrev pub IsBounded : Connections → Type 0
 IsBounded connections = (connections.kept ≡ kept_in connections.channels.entries) × (connections.kept ≤ MAX_KEPT)
+
+-- the direction with these ends is read
+abbrev pub IsRead : Connections → Ends → Type 0
+IsRead connections ends = (channel : Channel) × (get ends_cmp connections.channels ends ≡ Some channel) × (channel.closed ≡ None)

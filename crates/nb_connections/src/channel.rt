@@ -76,6 +76,7 @@ impl Channel {
             ((result ≡ false) × (self.new ≡ self.old))
             (λ reading. IsTrue result × KeepsReading self.new reading) }
         ensures kept { kept_of self.new ≤ kept_of self.old }
+        ensures open { IsTrue result → self.new.closed ≡ None }
     {
         let Some(closed) = self.closed else {
             return true;
@@ -113,9 +114,10 @@ impl Channel {
         ensures follows { (seen : List Seen) → Follows self.old seen → (packets : List Packet)
             × ArePackets packets ready.new.items
             × IsGrown self.new (cond (begins self.old.first opens piece.now.number)
-                (piece.now.number, seen_of piece.now packets ∷ [])
-                (self.old.first, seen ++ (seen_of piece.now packets) ∷ [])) }
+            (piece.now.number, seen_of piece.now packets ∷ [])
+            (self.old.first, seen ++ (seen_of piece.now packets) ∷ [])) }
         ensures kept { kept_of self.old ≤ room → kept_of self.new ≤ room }
+        ensures open { IfOk result (λ taken. taken.left_out ≡ None → self.new.closed ≡ None) }
     {
         if self.begins_anew(opens, piece.number) {
             *self = Channel::new(alloc, piece.number);
@@ -152,6 +154,7 @@ impl Channel {
             × ArePackets packets ready.new.items
             × Follows self.new (seen ++ (seen_of piece.now packets) ∷ []) }
         ensures kept { kept_of self.old ≤ room → kept_of self.new ≤ room }
+        ensures open { IfOk result (λ taken. taken.left_out ≡ None → self.new.closed ≡ None) }
     {
         if !self.reads_at(alloc, piece.number) {
             ready.clear();
@@ -182,13 +185,17 @@ impl Channel {
         room: usize,
         ready: &mut Vec<u8>,
     ) -> Result<Taken, NoMemory>
+        requires { self.old.closed ≡ None }
         ensures first { self.new.first ≡ self.old.first }
         ensures reads { (old : Reading) → KeepsReading self.old old → (packets : List Packet)
             × ArePackets packets ready.new.items
             × ReadsTo old (seen_of piece.now packets) self.new }
         ensures kept { kept_of self.new ≤ room }
+        ensures open { IfOk result (λ taken. taken.left_out ≡ None → self.new.closed ≡ None) }
     {
-        let taken = self.direction.take(alloc, piece.number, piece.bytes, piece.numbers);
+        let taken = self
+            .direction
+            .take(alloc, piece.number, piece.bytes, piece.numbers);
         if taken.refusal.is_some() {
             self.close(alloc, Closed::Gap(None));
             ready.clear();
@@ -227,6 +234,7 @@ impl Channel {
 
     /// Forgets what was handed on, where no more than half the room of all directions is left.
     fn spare(&mut self, room: usize)
+        ensures closed { self.new.closed ≡ self.old.closed }
         ensures first { self.new.first ≡ self.old.first }
         ensures reads { (reading : Reading) → KeepsReading self.old reading →
             KeepsReading self.new reading }
@@ -246,6 +254,7 @@ impl Channel {
     /// Hands on what is in order: the packets that it completes are put in `ready`, and the rest is
     /// held. Answers what the rest is.
     fn hand_on(&mut self, alloc: Global, ready: &mut Vec<u8>) -> Result<Rest, NoMemory>
+        ensures closed { self.new.closed ≡ self.old.closed }
         ensures first { self.new.first ≡ self.old.first }
         ensures hands_on { IfOk result (λ rest. (old : Reading) → KeepsReading self.old old →
             (packets : List Packet) × ArePackets packets ready.new.items × (new : Reading)

@@ -1,7 +1,7 @@
 //! All connections of a capture.
-ghost use Rattle.std.specs.Prelude.{◌≡◌, ◌+◌, None, [], OnErr, OnOk, Some, cond};
+ghost use Rattle.std.specs.Prelude.{IfOk, length, ◌≡◌, ◌+◌, None, [], OnErr, OnOk, Some, cond};
 ghost use Rattle.std.specs.BTreeMap.{get};
-ghost use Rattle.nb_connections.specs.Directions.{IsBounded, Knows, Takes, kept_in, came, came_at, ends_of, first_number, has, numbers_of};
+ghost use Rattle.nb_connections.specs.Directions.{IsBounded, IsRead, Knows, Takes, kept_in, came, came_at, ends_of, first_number, has, numbers_of};
 ghost use Rattle.nb_connections.specs.Channels.{kept_of};
 ghost use Rattle.nb_connections.specs.Ends.{ends_cmp, same_ends};
 ghost use Rattle.nb_connections.specs.declared.ends.Ends.{Ends as EndsValue};
@@ -58,6 +58,8 @@ impl Connections {
     /// begins anew.
     pub fn take(&mut self, segment: &TcpSegment<'_>) -> Result<Taken, NoMemory>
         ensures takes { Takes self.old (came segment.now) self.new }
+        ensures read { IfOk result (λ taken. taken.left_out ≡ None →
+            IsRead self.new (ends_of segment.now)) }
         ensures bounded { IsBounded self.old → IsBounded self.new }
     {
         let bytes = segment.payload.bytes();
@@ -75,13 +77,9 @@ impl Connections {
     }
 
     /// Takes a segment between these ends.
-    fn enter(
-        &mut self,
-        ends: Ends,
-        opens: bool,
-        piece: &Piece<'_>,
-    ) -> Result<Taken, NoMemory>
+    fn enter(&mut self, ends: Ends, opens: bool, piece: &Piece<'_>) -> Result<Taken, NoMemory>
         ensures takes { Takes self.old (came_at ends opens piece.now) self.new }
+        ensures read { IfOk result (λ taken. taken.left_out ≡ None → IsRead self.new ends) }
         ensures bounded { IsBounded self.old → IsBounded self.new }
     {
         match self.channels.get_mut(&ends) {
@@ -138,6 +136,7 @@ impl Connections {
 
     /// Leaves out the bytes of a segment.
     fn leave_out(&mut self, reason: Reason, bytes: &[u8]) -> Taken
+        ensures left { result.left_out ≡ Some (record { reason = reason; count = length bytes.now }) }
         ensures channels { self.new.channels ≡ self.old.channels }
         ensures ready { self.new.ready.items ≡ [] }
         ensures kept { self.new.kept ≡ self.old.kept }

@@ -5,6 +5,7 @@ mod channel;
 mod connections;
 mod cutting;
 mod ends;
+pub mod laws;
 pub mod limits;
 mod piece;
 mod taken;

@@ -28,6 +28,11 @@ returns-then-end-eq0-clause-hands_on c = λ old keeps.
     let all : drop end row ≡ row = ap (λ (n : ℕ). drop n row) c.if-end-eq0.true in
     let got = handed_on c.args.self.now _ old hands.handed row end packets.0 keeps orders
     (c.in_ok-hand_on.ensures.all _ old.segments (old.out ++ hands.handed) orders) (search rules) are behind refl c.in_ok-hand_on.ensures.first
-    (ap (λ v. v.items) c.replace-then-end-eq0.ensures.value ∙ sym all) in
-    (packets.0, subst (ArePackets packets.0) (none ∙ sym (ap (λ v. v.items) c.replace-then-end-eq0.ensures.after ∙ c.new-then-end-eq0.ensures.items)) are,
-    got.0, got.1, got.2, subst (λ (l : List ℕ). StandsAfter l c.whole_packets-end.result.1) (sym got.3) after)
+    (ap (λ v. v.items) c.replace-then-end-eq0.ensures.value ∙ sym all) in (
+      packets.0,
+      subst (ArePackets packets.0) (none ∙ sym (ap (λ v. v.items) c.replace-then-end-eq0.ensures.after ∙ c.new-then-end-eq0.ensures.items)) are,
+      got.0,
+      got.1,
+      got.2,
+      subst (λ (l : List ℕ). StandsAfter l c.whole_packets-end.result.1) (sym got.3) after,
+    )

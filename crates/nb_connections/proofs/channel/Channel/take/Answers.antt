@@ -4,9 +4,11 @@ use Rattle.nb_connections.proofs.ChannelLemmas.{left, follows_on}
 use Rattle.nb_connections.proofs.channel.Channel.take.Goals as goal
 
 pub returns-then-not-reads_at-clause-follows : goal.returns-then-not-reads_at-clause-follows
-returns-then-not-reads_at-clause-follows c = λ seen follows.
-    ([], subst (ArePackets []) (sym c.clear.ensures.items) no_packet,
-    left c.args.self.now c.reads_at.new.self seen _ c.reads_at.result (search rules) refl c.reads_at.ensures.reads follows)
+returns-then-not-reads_at-clause-follows c = λ seen follows. (
+  [],
+  subst (ArePackets []) (sym c.clear.ensures.items) no_packet,
+  left c.args.self.now c.reads_at.new.self seen _ c.reads_at.result (search rules) refl c.reads_at.ensures.reads follows,
+)
 
 pub returns-clause-follows : goal.returns-clause-follows
 returns-clause-follows c = λ seen follows.

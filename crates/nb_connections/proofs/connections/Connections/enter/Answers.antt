@@ -1,11 +1,12 @@
 use Rattle.std.proofs.Common.{ℕ, ◌≡◌, ◌+◌, ◌-◌, ◌^◌, min, List, cond, sym, ap, subst, ◌∙◌, arith, rules, [], Some, None}
 use Rattle.std.proofs.lemmas.Grind.{common_steps}
+use Rattle.std.proofs.lemmas.Result.{IfOk-weaker}
 use Rattle.std.specs.BTreeMap.{get, is_at}
 use Rattle.nb_session.specs.Cutting.{ArePackets}
 use Rattle.nb_connections.specs.Ends.{ends_cmp, same_ends}
 use Rattle.nb_connections.specs.Channels.{kept_of}
 use Rattle.nb_connections.specs.Directions.{kept_in}
-use Rattle.nb_connections.proofs.DirectionsLemmas.{takes_none, takes_received, takes_begun, kept_set, bounded_in, bounded_new}
+use Rattle.nb_connections.proofs.DirectionsLemmas.{takes_none, takes_received, takes_begun, kept_set, bounded_in, bounded_new, same_self, some_left}
 use Rattle.nb_connections.proofs.connections.Connections.enter.Goals as goal
 
 pub returns-in-Some-clause-takes : goal.returns-in-Some-clause-takes
@@ -53,3 +54,17 @@ returns-clause-bounded c = λ bounded.
     (c.saturating_add-self-2.ensures ∙ ap (λ (n : ℕ). min (c.admit.new.self.kept + n) (2 ^ 64 - 1)) c.kept-kept.ensures) in
     let none : get ends_cmp c.get_mut.follows.lender-at-none c.args.ends ≡ None = grind (arith, common_steps, c.get_mut.follows.holds-at-none, c.in-None.ensures.value) in
     (b.0 ∙ ap (λ (n : ℕ). n + kept_of new) (bounded.0 ∙ ap (λ m. kept_in m.entries) (sym c.get_mut.follows.holds-at-none)) ∙ sym (c.in_ok-admit.ensures.sum none), b.1)
+
+pub returns-in-Some-clause-read : goal.returns-in-Some-clause-read
+returns-in-Some-clause-read c = IfOk-weaker c.receive-taken.result _ _
+    (λ taken reads none. (c.receive-taken.new.self, ((c.get_mut.follows.holds c.receive-taken.new.self).3 (search rules)).1, reads none)) c.receive-taken.ensures.open
+
+pub returns-then-not-may_begin-clause-read : goal.returns-then-not-may_begin-clause-read
+returns-then-not-may_begin-clause-read c = λ none. some_left _ _ c.leave_out.ensures.left none
+
+pub returns-then-len-ge-MAX_DIRECTIONS-clause-read : goal.returns-then-len-ge-MAX_DIRECTIONS-clause-read
+returns-then-len-ge-MAX_DIRECTIONS-clause-read c = λ none. some_left _ _ c.leave_out-then-len-ge-MAX_DIRECTIONS.ensures.left none
+
+pub returns-clause-read : goal.returns-clause-read
+returns-clause-read c = IfOk-weaker c.take-taken.result _ _
+    (λ taken reads none. (c.take-taken.new.self, c.in_ok-admit.ensures.ok c.args.ends ∙ ap (λ b. cond b (Some c.take-taken.new.self) (get ends_cmp c.get_mut.follows.lender-at-none c.args.ends)) (same_self c.args.ends), reads none)) c.take-taken.ensures.open

@@ -1,5 +1,5 @@
 -- Orders goes on.
-use Rattle.std.proofs.Common.{ℕ, ◌≡◌, ◌≤◌, ◌<◌, ◌+◌, ◌-◌, ◌⊎◌, inl, inr, cond, true, false, Bool, IsTrue, List, [], ◌∷◌, ◌++◌, length, length-drop, drop, take, Option, None, Some, refl, sym, ◌∙◌, ap, subst, arith}
+use Rattle.std.proofs.Common.{ℕ, ◌≡◌, ◌≤◌, ◌<◌, ◌+◌, ◌⊎◌, inl, inr, cond, true, false, Bool, IsTrue, List, [], ◌∷◌, ◌++◌, length, length-drop, drop, take, Option, None, Some, refl, sym, ◌∙◌, ap, subst, arith}
 use Rattle.std.specs.Prelude.{max}
 use Rattle.std.proofs.lemmas.Bool.{cases_lt}
 use Rattle.nb_tcp.specs.Order.{Segment, StandsAt, among, or_else, is_keep_alive, sent_at, reach_after, placed_after, placed}

@@ -1,7 +1,7 @@
 -- What a direction keeps, and that it is what its segments say.
 use Rattle.std.specs.Prelude.{ℕ, ◌≡◌, ◌+◌, ◌≤◌, ◌<◌, List, length, Some, slice_index}
 use Rattle.nb_tcp.specs.Order.{Segment, placed, reach_after}
-use Rattle.nb_tcp.specs.Runs.{in_runs, AreRuns, charge_of}
+use Rattle.nb_tcp.specs.Runs.{in_runs, charge_of}
 use Rattle.nb_tcp.specs.declared.limits.TheConstants.{START, LAST, ROOM}
 
 -- the number of the first byte; the place up to which all was handed on or passed over; that from which on what came is known; how far

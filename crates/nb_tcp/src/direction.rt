@@ -9,7 +9,7 @@ ghost use Rattle.nb_tcp.specs.declared.limits.TheConstants.{START, LAST, ROOM, T
 use crate::comparing::contradicts;
 use crate::forgetting::forget;
 use crate::handing;
-use crate::limits::{LAST, START};
+use crate::limits::{LAST, START, TAIL};
 use crate::places::place_of;
 use crate::putting::put;
 use crate::runs::Runs;
@@ -61,6 +61,7 @@ impl Direction {
     pub fn new(alloc: Global, first: u32) -> Direction
         ensures first { result.first ≡ first }
         ensures orders { Orders START result [] [] }
+        ensures kept { charge_of result.runs ≡ 0 }
     {
         Direction {
             first,
@@ -139,7 +140,7 @@ impl Direction {
         ensures first { self.new.first ≡ self.old.first }
     {
         let handed = handing::hand_on(&self.runs, &mut self.handed, to);
-        self.known = forget(&mut self.runs, self.known, self.handed);
+        self.known = forget(&mut self.runs, self.known, self.handed, TAIL);
         handed
     }
 
@@ -164,7 +165,18 @@ impl Direction {
         ensures first { self.new.first ≡ self.old.first }
     {
         self.handed = self.handed.max(place.min(LAST));
-        self.known = forget(&mut self.runs, self.known, self.handed);
+        self.known = forget(&mut self.runs, self.known, self.handed, TAIL);
+    }
+
+    /// Forgets what was handed on, so that no more is kept than what waits. That a byte of it comes
+    /// again with another value isn't noticed.
+    pub fn forget(&mut self)
+        ensures orders { (from : ℕ) (segments : List Segment) (out : List ℕ) →
+            Orders from self.old segments out → Orders from self.new segments out }
+        ensures room { charge_of self.new.runs ≤ charge_of self.old.runs }
+        ensures first { self.new.first ≡ self.old.first }
+    {
+        self.known = forget(&mut self.runs, self.known, self.handed, 0);
     }
 
     /// The place up to which all was handed on, or passed over.

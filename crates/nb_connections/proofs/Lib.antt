@@ -1,0 +1,4 @@
+mod CutLemmas
+mod ChannelLemmas
+mod EndsLemmas
+mod DirectionsLemmas

@@ -1,0 +1,7 @@
+pub mod Ends
+pub mod EndsFacts
+pub mod Rests
+pub mod Reading
+pub mod Course
+pub mod Channels
+pub mod Directions

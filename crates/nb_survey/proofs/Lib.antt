@@ -1,3 +1,4 @@
 pub mod PlaceLemmas
 pub mod RequestLemmas
 pub mod RowLemmas
+pub mod HearingLemmas

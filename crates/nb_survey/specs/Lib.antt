@@ -6,5 +6,6 @@ pub mod Requests
 pub mod Telling
 pub mod Rows
 pub mod Sums
+pub mod Hearing
 pub mod Code
 pub mod Examples

@@ -2,6 +2,7 @@
 #![tactic(auto)]
 
 mod heard;
+mod hearing;
 pub mod laws;
 mod place;
 mod requests;
@@ -11,6 +12,7 @@ mod saying;
 mod survey;
 mod word;
 
+pub use hearing::hear;
 pub use heard::{Facts, Frame, Heard, Listed, Place, Said};
 pub use row::{Half, Row};
 pub use saying::say;

@@ -1,15 +1,16 @@
 -- The table *names*: a row for each name and address of which something is said (our choice; docs/SUMMARY.md).
-use Rattle.std.specs.Prelude.{ℕ, ◌≡◌, ◌-◌, ◌^◌, min, not, Bool, true, false, List, [], ◌∷◌, filter, filter_map, count_by, Option, Some, None, unwrap_or, if◌then◌else◌}
+use Rattle.std.specs.Prelude.{ℕ, ◌≡◌, ◌==◌, ◌+◌, ◌-◌, ◌^◌, min, not, Bool, true, false, List, [], ◌∷◌, filter, filter_map, Option, Some, None, unwrap_or, if◌then◌else◌}
 use Rattle.std.specs.List.{last_or}
-use Rattle.nb_survey.specs.declared.heard.Place.{Place}
+use Rattle.std.specs.declared.net.ip_addr.IpAddr.{IpAddr}
 use Rattle.nb_survey.specs.declared.heard.Said.{Said}
 use Rattle.nb_survey.specs.declared.row.Half.{Half}
 use Rattle.nb_survey.specs.declared.row.Row.{Row}
+use Rattle.nb_survey.specs.declared.row.Tally.{Tally}
+use Rattle.nb_survey.specs.declared.word.Asking.{Asking}
 use Rattle.nb_survey.specs.declared.word.Asking.TheVariants.{Claim}
 use Rattle.nb_survey.specs.declared.word.Word.{Word}
 use Rattle.nb_survey.specs.declared.word.Word.TheVariants.{Granted}
-use Rattle.nb_survey.specs.Places.{place_eq}
-use Rattle.nb_survey.specs.Requests.{is_of}
+use Rattle.nb_survey.specs.Places.{same_address}
 use Rattle.nb_survey.specs.Words.{asking_of, is_own, is_refusal}
 
 -- ---- what is looked at of a word that is said
@@ -32,9 +33,14 @@ own_of said = if is_own said.word then Some (half_of said) else None
 abbrev pub others_of : Said → Option Half
 others_of said = if not (is_own said.word) then Some (half_of said) else None
 
+-- what is asked is a name
+abbrev pub asks_name : Option Asking → Bool
+asks_name (Some Claim) = true
+asks_name _ = false
+
 -- it claims the name
 abbrev pub is_claim : Said → Bool
-is_claim said = is_of Claim (asking_of said.word)
+is_claim said = asks_name (asking_of said.word)
 
 -- it refuses the name
 abbrev pub refuses : Said → Bool
@@ -59,9 +65,21 @@ granted_of said = if is_grant said.word then said.facts.ttl else None
 abbrev pub latest_of : {A : Type 0} → (Said → Option A) → List Said → Option A
 latest_of f said = last_or None (filter_map f said)
 
--- counted p said: how many of these are so; the count stays at the greatest number
-abbrev pub counted : (Said → Bool) → List Said → ℕ
-counted p said = min (count_by p said) (2 ^ 64 - 1)
+-- packets frames: how many packets these frames of words are, of which those of a packet stand in a row
+abbrev pub packets : List ℕ → ℕ
+packets [] = 0
+packets (frame ∷ []) = 1
+packets (frame ∷ (next ∷ frames)) = if frame == next then packets (next ∷ frames) else packets (next ∷ frames) + 1
+
+-- frame_where p said: the frame of a word that is so
+abbrev pub frame_where : (Said → Bool) → Said → Option ℕ
+frame_where p said = if p said then Some said.facts.frame.number else None
+
+-- tally p said: how many packets have such a word, up to the greatest number, and the frame of the last one
+abbrev pub tally : (Said → Bool) → List Said → Tally
+tally p said =
+    let frames = filter_map (frame_where p) said in
+    record { packets = min (packets frames) (2 ^ 64 - 1); last = last_or None frames }
 
 -- row_from first said: the row of which these are all words that are said, the first in this frame
 abbrev pub row_from : ℕ → List Said → Row
@@ -71,8 +89,8 @@ row_from first said = record {
   own = latest_of own_of said;
   others = latest_of others_of said;
   is_own_later = unwrap_or (latest_of (λ s. Some (is_own s.word)) said) false;
-  claims = counted is_claim said;
-  refusals = counted refuses said;
+  claims = tally is_claim said;
+  refusals = tally refuses said;
   claimed = latest_of claimed_of said;
   granted = latest_of granted_of said;
 }
@@ -82,14 +100,10 @@ abbrev pub row_of : List Said → Option Row
 row_of [] = None
 row_of (one ∷ later) = Some (row_from one.facts.frame.number (one ∷ later))
 
--- is_at place said: it is said of this name at this address
-abbrev pub is_at : Place → Said → Bool
-is_at place said = place_eq said.place place
+-- is_at address said: it is said of the name at this address
+abbrev pub is_at : IpAddr → Said → Bool
+is_at address said = same_address said.place.address address
 
--- the row of a name at an address, by all that is said
-abbrev pub row_at : Place → List Said → Option Row
-row_at place said = row_of (filter (is_at place) said)
-
--- AreRows row said: these are the rows of all names at all addresses
-abbrev pub AreRows : (Place → Option Row) → List Said → Type 0
-AreRows row said = (place : Place) → row place ≡ row_at place said
+-- row_at address said: the row of a name at an address, by all that is said of the name
+abbrev pub row_at : IpAddr → List Said → Option Row
+row_at address said = row_of (filter (is_at address) said)

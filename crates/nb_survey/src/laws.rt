@@ -2,9 +2,8 @@
 ghost use Rattle.std.specs.Prelude.{◌≡◌, ℕ, [], ◌∷◌, ◌++◌, List, Some, None, true, false, codes, replicate};
 ghost use Rattle.nb_names.specs.FirstLevel.{letters};
 ghost use Rattle.nb_survey.specs.Examples.{fred, IsFrom, seven, eight};
-ghost use Rattle.nb_survey.specs.Places.{place_eq};
-ghost use Rattle.nb_survey.specs.Rows.{row_at};
 ghost use Rattle.nb_survey.specs.Sayings.{is_wildcard, listed_word, said_at, sayings};
+ghost use Rattle.nb_survey.specs.Telling.{mentions, words_of};
 ghost use Rattle.nb_survey.specs.Words.{asking_of, is_own, word_of};
 ghost use Rattle.nb_survey.specs.declared.heard.Heard.{Heard};
 ghost use Rattle.nb_survey.specs.declared.heard.Place.{Place};
@@ -65,9 +64,11 @@ pub fn packets()
         sayings heard ≡ said_at heard fred seven Granted (Some true) ∷ [] }
 {}
 
-/// What is said of another name, or at another address, changes no row, wherever it is said.
+/// A packet that is about another name, and doesn't list this one, changes no word that is said of
+/// this one, and so no row, wherever it stands.
+#[tactic(auto, using(crate::proofs::TellLemmas::silent))]
 pub fn others_change_nothing()
-    ensures { (place : Place) (before later : List Said) (other : Said) →
-        place_eq other.place place ≡ false →
-        row_at place (before ++ other ∷ later) ≡ row_at place (before ++ later) }
+    ensures { (name : List (List ℕ)) (before later : List Heard) (other : Heard) →
+        mentions name other ≡ false →
+        words_of name (before ++ other ∷ later) ≡ words_of name (before ++ later) }
 {}

@@ -4,6 +4,7 @@
 mod heard;
 mod hearing;
 pub mod laws;
+pub mod limits;
 mod place;
 mod requests;
 mod row;
@@ -12,9 +13,9 @@ mod saying;
 mod survey;
 mod word;
 
-pub use hearing::hear;
 pub use heard::{Facts, Frame, Heard, Listed, Place, Said};
-pub use row::{Half, Row};
+pub use hearing::hear;
+pub use row::{Half, Row, Tally};
 pub use saying::say;
 pub use survey::Survey;
 pub use word::{Asking, Word, word_of};

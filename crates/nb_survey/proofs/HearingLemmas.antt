@@ -1,5 +1,5 @@
 -- What is heard of a packet, item by item.
-use Rattle.std.proofs.Common.{ℕ, zero, suc, ◌≡◌, ◌≢◌, ◌∙◌, refl, sym, ap, List, [], ◌∷◌, ◌++◌, length, slice_index, Bool, true, false, ◌==◌, ◌&&◌, ◌*◌, ◌/◌, ◌%◌, ◌<◌, Option, Some, None, filter_map, map, take, ◌+◌, append-nil, append_assoc, arith}
+use Rattle.std.proofs.Common.{ℕ, zero, suc, ◌≡◌, ◌∙◌, refl, sym, ap, List, [], ◌∷◌, ◌++◌, length, slice_index, Bool, true, false, ◌==◌, ◌&&◌, ◌*◌, ◌/◌, ◌%◌, ◌<◌, Option, Some, None, map, take, ◌+◌, append-nil, append_assoc, arith}
 use Rattle.std.proofs.lemmas.List.{map-append, take_more}
 use Rattle.std.proofs.lemmas.List.Elements.{filter_map-append}
 use Rattle.std.proofs.lemmas.Option.{get_or_from_slice_get, slice_get_within}
@@ -9,7 +9,7 @@ use Rattle.std.proofs.lemmas.Bool.Decides.{nat_tests}
 use Rattle.nb_streams.specs.Places.{AreBytes}
 use Rattle.nb_names.specs.FirstLevel.{letter, letters, IsLetter}
 use Rattle.nb_names.specs.Name.{NetbiosName, IsName, IsNoName, no_label, wrong_length, non_letter, labels_of_name}
-use Rattle.nb_names.specs.NameText.{are_letters, is_letter}
+use Rattle.nb_names.specs.NameText.{is_letter}
 use Rattle.nb_service.specs.declared.seen.Seen.{Seen}
 use Rattle.nb_service.specs.Items.{PacketItem, asked, told, section_of, Sees, SeesRecord}
 use Rattle.nb_service.specs.Record.{ResourceRecord}

@@ -1,6 +1,6 @@
 -- What is kept of a name, after one more word.
 use Rattle.std.proofs.Common.{ℕ, ◌≡◌, ◌==◌, ◌&&◌, ◌<◌, refl, sym, ◌∙◌, ap, subst, arith, List, [], ◌∷◌, ◌++◌, Bool, true, false, cond, filter, append-nil, append_assoc, length, Option, Some, None}
-use Rattle.std.proofs.lemmas.Bool.{and_parts}
+use Rattle.std.proofs.lemmas.Bool.{and_parts, false≢true}
 use Rattle.std.proofs.lemmas.Bool.Decides.{nat_tests}
 use Rattle.std.specs.Ordering.{match_ordering}
 use Rattle.std.proofs.lemmas.List.Elements.{filter-append}
@@ -8,50 +8,100 @@ use Rattle.std.specs.BTreeSet.{insert_key}
 use Rattle.std.specs.declared.net.ip_addr.IpAddr.{IpAddr}
 use Rattle.std.specs.declared.cmp.Ordering.{Ordering}
 use Rattle.std.specs.declared.cmp.Ordering.TheVariants.{Less, Equal, Greater}
-use Rattle.std.specs.Ordering.{ordering_then, is_eq}
-use Rattle.std.specs.Cmp.{Equal-is}
+use Rattle.std.specs.Option.{option_cmp}
+use Rattle.std.specs.Ordering.{ordering_then, is_eq, on, then_cmp}
+use Rattle.std.proofs.lemmas.Cmp.{eq_by_cmp_equiv}
+use Rattle.std.specs.Map.{lookup}
 use Rattle.nb_names.specs.DomainName.{domain_cmp}
-use Rattle.nb_survey.specs.declared.heard.Place.{Place}
+use Rattle.nb_survey.specs.declared.key.Key.{Key}
+use Rattle.nb_survey.specs.declared.key.Reason.{Reason}
 use Rattle.nb_survey.specs.declared.heard.Said.{Said}
-use Rattle.nb_survey.specs.declared.row.Row.{Row}
+use Rattle.nb_survey.specs.declared.rows.Table.{Table}
+use Rattle.nb_survey.specs.declared.rows.Tables.{Tables}
 use Rattle.nb_survey.specs.declared.survey.Kept.{Kept}
 use Rattle.nb_survey.specs.declared.survey.Survey.{Survey}
-use Rattle.nb_survey.specs.Code.Kept.{Hears, is_whole, Keeps, kept_row, left_out, of_name, requests_in, whole_in}
+use Rattle.nb_survey.specs.Code.Kept.{Hears, is_whole, Keeps, kept_row, key_at, Taken, left_out, of_name, requests_in, whole_in}
 use Rattle.nb_survey.specs.Code.Steps.{grown}
-use Rattle.nb_survey.specs.Places.{address_cmp, place_eq, same_address, same_name}
+use Rattle.nb_survey.specs.KeyFacts.{key_cmp_total}
+use Rattle.nb_survey.specs.Keys.{has_key, name_key, reason_cmp, reason_of, refusal_key, same_key}
+use Rattle.nb_survey.specs.Places.{address_cmp, same_name}
+use Rattle.nb_survey.specs.Words.{is_refusal}
 use Rattle.nb_survey.specs.Requests.{latest, renewed_by, request_of, requests}
 use Rattle.nb_survey.specs.Rows.{row_at}
 use Rattle.nb_survey.specs.Telling.{is_about}
-use Rattle.nb_survey.proofs.PlaceLemmas.{address_cmp_exact, name_exact}
+use Rattle.nb_survey.proofs.PlaceLemmas.{name_exact}
 use Rattle.nb_survey.proofs.RequestLemmas.{requests-more}
 use Rattle.nb_survey.proofs.RowLemmas.{row_at-more}
 
--- at name address: the name at the address
-abbrev at : List (List ℕ) → IpAddr → Place
-at name address = record { name = name; address = address }
+-- ---- tables
 
--- IsUpdated old new s room kept: the word is taken: the row where there is room, and what is kept of the name
-pub record IsUpdated (old new : Survey) (s : Said) (room : Bool) (kept : Kept) : Type 0 where
-  pub rows : (place : Place) → kept_row new.rows place ≡ cond (room && place_eq s.place place) (Some (grown (kept_row old.rows s.place) s)) (kept_row old.rows place)
-  pub names : (name : List (List ℕ)) → of_name new name ≡ cond (same_name s.place.name name) (Some kept) (of_name old name)
-  pub others : left_out new ≡ left_out old
-  pub whole : kept.is_whole ≡ (room && is_whole old s.place.name)
-  pub asked : room ≡ true → kept.requests.items ≡ renewed_by (requests_in (of_name old s.place.name)) (request_of s)
+and_false : (b : Bool) → (b && false) ≡ false
+and_false true = refl
+and_false false = refl
 
 both_equal : (a b : Ordering) → is_eq (ordering_then a b) ≡ (is_eq a && is_eq b)
 both_equal Less b = refl
 both_equal Equal b = refl
 both_equal Greater b = refl
 
-place_parts : (p : Place) (name : List (List ℕ)) (a : IpAddr) → place_eq p (at name a) ≡ (same_name p.name name && same_address p.address a)
-place_parts p name a = both_equal (domain_cmp p.name name) (address_cmp p.address a)
+-- rows of names that differ differ
+other_key : (k : Key) (name : List (List ℕ)) (a : IpAddr) (r : Option Reason) → same_name k.name name ≡ false → same_key k (key_at name a r) ≡ false
+other_key k name a r apart =
+    let rest : Ordering = then_cmp (on (λ (x : Key). x.address) address_cmp) (on (λ (x : Key). x.reason) (option_cmp reason_cmp)) k (key_at name a r) in
+    both_equal (domain_cmp k.name name) rest ∙ ap (λ b. b && is_eq rest) apart
 
-and_false : (b : Bool) → (b && false) ≡ false
-and_false true = refl
-and_false false = refl
+other_refusal : (b : Bool) (k : Key) (name : List (List ℕ)) (a : IpAddr) (r : Option Reason) → same_name k.name name ≡ false
+    → has_key (key_at name a r) (cond b (Some k) None) ≡ false
+other_refusal true k name a r apart = other_key k name a r apart
+other_refusal false k name a r apart = refl
 
-address_exact : (a b : IpAddr) → same_address a b ≡ true → a ≡ b
-address_exact a b h = address_cmp_exact a b ((Equal-is (address_cmp a b)).0 h)
+-- rows that are one have one value
+pub tied_row : (table : Table) (k key : Key) → same_key k key ≡ true → kept_row table k ≡ kept_row table key
+tied_row table k key e = λ i. lookup (λ x. (eq_by_cmp_equiv key_cmp_total).congr k key x e i) table.rows.entries
+
+-- a table that takes a word in its row
+pub table_takes : (key_of : Said → Option Key) (old new : Table) (k : Key) (s : Said) (room : Bool) → Some k ≡ key_of s
+    → ((other : Key) → kept_row new other ≡ cond (room && same_key k other) (Some (grown (kept_row old k) s)) (kept_row old other))
+    → Taken key_of old new s room
+table_takes key_of old new k s room is heard = record {
+  takes = λ some key e.
+      let same : same_key k key ≡ true = ap (has_key key) is ∙ e in
+      heard key ∙ (ap (λ r. cond (r && same_key k key) (Some (grown (kept_row old k) s)) (kept_row old key)) some
+      ∙ (ap (λ b. cond b (Some (grown (kept_row old k) s)) (kept_row old key)) same ∙ ap (λ r. Some (grown r s)) (tied_row old k key same)));
+  stays = λ key e.
+      let apart : (room && same_key k key) ≡ false = ap (λ b. room && b) (ap (has_key key) is ∙ e) ∙ and_false room in
+      heard key ∙ ap (λ b. cond b (Some (grown (kept_row old k) s)) (kept_row old key)) apart;
+}
+
+-- a table in which a word has no row
+pub table_stays : (key_of : Said → Option Key) (table : Table) (s : Said) (room : Bool) → None ≡ key_of s → Taken key_of table table s room
+table_stays key_of table s room is = record {
+  takes = λ some key e. absurd (false≢true (ap (has_key key) is ∙ e));
+  stays = λ key e. refl;
+}
+
+step_by : (key_of : Said → Option Key) (old new : Table) (s : Said) (room : Bool) (t : Taken key_of old new s room) (key : Key) (before : List Said) (b : Bool)
+    → has_key key (key_of s) ≡ b → room ≡ true → kept_row old key ≡ row_at key_of key before
+    → kept_row new key ≡ cond b (Some (grown (row_at key_of key before) s)) (row_at key_of key before)
+step_by key_of old new s room t key before true e some k = t.takes some key e ∙ ap (λ r. Some (grown r s)) k
+step_by key_of old new s room t key before false e some k = t.stays key e ∙ k
+
+-- a row of a table, after one more word of its name
+table_step : (key_of : Said → Option Key) (old new : Table) (s : Said) (room : Bool) → Taken key_of old new s room → room ≡ true → (key : Key) (before : List Said)
+    → kept_row old key ≡ row_at key_of key before → kept_row new key ≡ row_at key_of key (before ++ s ∷ [])
+table_step key_of old new s room t some key before k =
+    step_by key_of old new s room t key before (has_key key (key_of s)) refl some k ∙ sym (row_at-more key_of key before s)
+
+-- ---- names
+
+-- IsUpdated old new s room kept: the word is taken: the row where there is room, and what is kept of the name
+pub record IsUpdated (old new : Survey) (s : Said) (room : Bool) (kept : Kept) : Type 0 where
+  pub rows : Taken name_key old.tables.names new.tables.names s room
+  pub refusals : Taken refusal_key old.tables.refusals new.tables.refusals s room
+  pub names : (name : List (List ℕ)) → of_name new name ≡ cond (same_name s.place.name name) (Some kept) (of_name old name)
+  pub others : left_out new ≡ left_out old
+  pub whole : kept.is_whole ≡ (room && is_whole old s.place.name)
+  pub asked : room ≡ true → kept.requests.items ≡ renewed_by (requests_in (of_name old s.place.name)) (request_of s)
 
 -- the words of a name, after one more
 about_this : (name : List (List ℕ)) (s : Said) → same_name s.place.name name ≡ true → filter (is_about name) (s ∷ []) ≡ s ∷ []
@@ -61,11 +111,6 @@ about_another : (name : List (List ℕ)) (s : Said) (before : List Said) → sam
 about_another name s before e = ap (λ b. before ++ cond b (s ∷ []) []) e ∙ append-nil before
 
 module _ (old new : Survey) (s : Said) (room : Bool) (kept : Kept) (u : IsUpdated old new s room kept) where
-  row_step : (before : List Said) (a : IpAddr) (b : Bool) → same_address s.place.address a ≡ b → Keeps old s.place.name before →
-      cond b (Some (grown (kept_row old.rows s.place) s)) (kept_row old.rows (at s.place.name a)) ≡ cond b (Some (grown (row_at a before) s)) (row_at a before)
-  row_step before a true e k = ap (λ r. Some (grown r s)) (k.rows s.place.address ∙ ap (λ x. row_at x before) (address_exact s.place.address a e))
-  row_step before a false e k = k.rows a
-
   hears_this : same_name s.place.name s.place.name ≡ true → is_whole new s.place.name ≡ true → Hears old new s.place.name (s ∷ [])
   hears_this self whole =
       let n = s.place.name in
@@ -73,17 +118,15 @@ module _ (old new : Survey) (s : Said) (room : Bool) (kept : Kept) (u : IsUpdate
       let w : kept.is_whole ≡ true = sym (ap (whole_in (left_out new)) e) ∙ whole in
       let parts = and_parts room (is_whole old n) (sym u.whole ∙ w) in
       let filt = sym (about_this n s self) in
-      let test : (a : IpAddr) → (room && place_eq s.place (at n a)) ≡ same_address s.place.address a =
-      λ a. ap (λ r. r && place_eq s.place (at n a)) parts.0 ∙ (place_parts s.place n a ∙ ap (λ b. b && same_address s.place.address a) self) in
       record {
         whole = parts.1;
         keeps = λ before k. record {
-          rows = λ a. u.rows (at n a)
-            ∙ (ap (λ b. cond b (Some (grown (kept_row old.rows s.place) s)) (kept_row old.rows (at n a))) (test a)
-            ∙ (row_step before a (same_address s.place.address a) refl k
-            ∙ (sym (row_at-more a before s) ∙ ap (λ xs. row_at a (before ++ xs)) filt)));
+          rows = λ a r. table_step name_key old.tables.names new.tables.names s room u.rows parts.0 (key_at n a r) before (k.rows a r)
+              ∙ ap (λ xs. row_at name_key (key_at n a r) (before ++ xs)) filt;
+          refusals = λ a r. table_step refusal_key old.tables.refusals new.tables.refusals s room u.refusals parts.0 (key_at n a r) before (k.refusals a r)
+              ∙ ap (λ xs. row_at refusal_key (key_at n a r) (before ++ xs)) filt;
           asked = ap requests_in e ∙ (u.asked parts.0 ∙ (ap (λ rs. renewed_by rs (request_of s)) k.asked
-            ∙ (sym (requests-more before s) ∙ ap (λ xs. latest (requests (before ++ xs))) filt)));
+              ∙ (sym (requests-more before s) ∙ ap (λ xs. latest (requests (before ++ xs))) filt)));
         };
       }
 
@@ -91,14 +134,14 @@ module _ (old new : Survey) (s : Said) (room : Bool) (kept : Kept) (u : IsUpdate
   hears_another name apart whole =
       let e : of_name new name ≡ of_name old name = u.names name ∙ ap (λ b. cond b (Some kept) (of_name old name)) apart in
       let w : is_whole new name ≡ is_whole old name = ap (λ n. whole_in n (of_name new name)) u.others ∙ ap (whole_in (left_out old)) e in
-      let test : (a : IpAddr) → (room && place_eq s.place (at name a)) ≡ false =
-      λ a. ap (λ b. room && b) (place_parts s.place name a ∙ ap (λ b. b && same_address s.place.address a) apart) ∙ and_false room in
       record {
         whole = sym w ∙ whole;
         keeps = λ before k. record {
-          rows = λ a. u.rows (at name a)
-            ∙ (ap (λ b. cond b (Some (grown (kept_row old.rows s.place) s)) (kept_row old.rows (at name a))) (test a)
-            ∙ (k.rows a ∙ ap (λ xs. row_at a xs) (sym (about_another name s before apart))));
+          rows = λ a r. u.rows.stays (key_at name a r) (other_key (record { name = s.place.name; address = s.place.address; reason = None }) name a r apart)
+              ∙ (k.rows a r ∙ ap (λ xs. row_at name_key (key_at name a r) xs) (sym (about_another name s before apart)));
+          refusals = λ a r. u.refusals.stays (key_at name a r)
+              (other_refusal (is_refusal s.word) (record { name = s.place.name; address = s.place.address; reason = Some (reason_of s) }) name a r apart)
+              ∙ (k.refusals a r ∙ ap (λ xs. row_at refusal_key (key_at name a r) xs) (sym (about_another name s before apart)));
           asked = ap requests_in e ∙ (k.asked ∙ ap (λ xs. latest (requests xs)) (sym (about_another name s before apart)));
         };
       }
@@ -112,7 +155,7 @@ module _ (old new : Survey) (s : Said) (room : Bool) (kept : Kept) (u : IsUpdate
   pub hears_on : (name : List (List ℕ)) → is_whole new name ≡ true → Hears old new name (s ∷ [])
   hears_on name = hears_by name (same_name s.place.name name) refl
 
-module _ (old new : Survey) (s : Said) (rows : (place : Place) → kept_row new.rows place ≡ kept_row old.rows place)
+module _ (old new : Survey) (s : Said) (tables : new.tables ≡ old.tables)
     (names : (name : List (List ℕ)) → of_name new name ≡ of_name old name) (absent : of_name old s.place.name ≡ None) (full : 0 < left_out new) where
   left_by : (name : List (List ℕ)) (b : Bool) → same_name s.place.name name ≡ b → (k : Kept) → of_name old name ≡ Some k → is_whole new name ≡ true → Hears old new name (s ∷ [])
   left_by name true e k there whole = absurd (cc (ap (of_name old) (name_exact s.place.name name e)))
@@ -122,7 +165,10 @@ module _ (old new : Survey) (s : Said) (rows : (place : Place) → kept_row new.
       record {
         whole = o ∙ (sym w ∙ whole);
         keeps = λ before h. record {
-          rows = λ a. rows (at name a) ∙ (h.rows a ∙ ap (λ xs. row_at a xs) (sym (about_another name s before e)));
+          rows = λ a r. ap (λ (t : Tables). kept_row t.names (key_at name a r)) tables
+              ∙ (h.rows a r ∙ ap (λ xs. row_at name_key (key_at name a r) xs) (sym (about_another name s before e)));
+          refusals = λ a r. ap (λ (t : Tables). kept_row t.refusals (key_at name a r)) tables
+              ∙ (h.refusals a r ∙ ap (λ xs. row_at refusal_key (key_at name a r) xs) (sym (about_another name s before e)));
           asked = ap requests_in (names name) ∙ (h.asked ∙ ap (λ xs. latest (requests xs)) (sym (about_another name s before e)));
         };
       }
@@ -163,6 +209,6 @@ hears_more old mid new name words s first then =
     record {
       whole = before.whole;
       keeps = λ said k. subst (Keeps new name)
-        (append_assoc said (filter (is_about name) words) (filter (is_about name) (s ∷ [])) ∙ ap (λ xs. said ++ xs) (sym (filter-append (is_about name) words (s ∷ []))))
-        (then.keeps (said ++ filter (is_about name) words) (before.keeps said k));
+          (append_assoc said (filter (is_about name) words) (filter (is_about name) (s ∷ [])) ∙ ap (λ xs. said ++ xs) (sym (filter-append (is_about name) words (s ∷ []))))
+          (then.keeps (said ++ filter (is_about name) words) (before.keeps said k));
     }

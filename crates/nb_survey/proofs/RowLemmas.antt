@@ -1,15 +1,13 @@
 -- A row, after one more word.
-use Rattle.std.proofs.Common.{ℕ, ◌≡◌, ◌==◌, ◌+◌, ◌-◌, ◌^◌, min, refl, sym, ◌∙◌, ap, List, [], ◌∷◌, ◌++◌, Bool, true, false, cond, filter, filter_map, append-nil, arith, Option, Some, None, unwrap_or}
+use Rattle.std.proofs.Common.{ℕ, ◌≡◌, ◌==◌, ◌+◌, ◌-◌, ◌^◌, min, refl, ◌∙◌, ap, List, [], ◌∷◌, ◌++◌, Bool, true, false, cond, filter, filter_map, append-nil, arith, Option, Some, None, unwrap_or}
 use Rattle.std.specs.List.{last_or, cons_option}
 use Rattle.std.specs.Option.{option_or}
-use Rattle.std.specs.declared.net.ip_addr.IpAddr.{IpAddr}
 use Rattle.std.proofs.lemmas.List.Elements.{filter-append, filter_map-append}
 use Rattle.nb_survey.specs.declared.heard.Said.{Said}
-use Rattle.nb_survey.specs.declared.row.Row.{Row}
-use Rattle.nb_survey.specs.declared.row.Tally.{Tally}
+use Rattle.nb_survey.specs.declared.key.Key.{Key}
 use Rattle.nb_survey.specs.Code.Steps.{after, counted, grown, is_last}
-use Rattle.nb_survey.specs.Places.{same_address}
-use Rattle.nb_survey.specs.Rows.{claimed_of, frame_where, granted_of, is_at, is_claim, latest_of, others_of, own_of, packets, refuses, row_at, row_from, row_of, tally}
+use Rattle.nb_survey.specs.Keys.{has_key}
+use Rattle.nb_survey.specs.Rows.{claimed_of, frame_where, granted_of, is_claim, latest_of, mac_of, others_of, own_of, packets, refuses, row_at, row_from, row_of, tally}
 use Rattle.nb_survey.specs.Words.{is_own}
 
 last_one_more : {A : Type 0} (o : Option A) (xs : List A) (x : A) → last_or o (xs ++ x ∷ []) ≡ Some x
@@ -64,6 +62,7 @@ row_from-more first xs s = λ i. record {
   refusals = tally-more refuses xs s i;
   claimed = latest_of-more claimed_of xs s i;
   granted = latest_of-more granted_of xs s i;
+  mac = latest_of-more mac_of xs s i;
 }
 
 row_of-more : (xs : List Said) (s : Said) → row_of (xs ++ s ∷ []) ≡ Some (grown (row_of xs) s)
@@ -74,8 +73,8 @@ grown_by : (b : Bool) (xs : List Said) (s : Said) → row_of (xs ++ cond b (s �
 grown_by true xs s = row_of-more xs s
 grown_by false xs s = ap row_of (append-nil xs)
 
--- the row of a name at each address, after one more word of it
-pub row_at-more : (address : IpAddr) (said : List Said) (s : Said)
-    → row_at address (said ++ s ∷ []) ≡ cond (same_address s.place.address address) (Some (grown (row_at address said) s)) (row_at address said)
-row_at-more address said s =
-    ap row_of (filter-append (is_at address) said (s ∷ [])) ∙ grown_by (same_address s.place.address address) (filter (is_at address) said) s
+-- a row, after one more word of the name
+pub row_at-more : (key_of : Said → Option Key) (key : Key) (said : List Said) (s : Said)
+    → row_at key_of key (said ++ s ∷ []) ≡ cond (has_key key (key_of s)) (Some (grown (row_at key_of key said) s)) (row_at key_of key said)
+row_at-more key_of key said s =
+    ap row_of (filter-append (λ x. has_key key (key_of x)) said (s ∷ [])) ∙ grown_by (has_key key (key_of s)) (filter (λ x. has_key key (key_of x)) said) s

@@ -1,6 +1,6 @@
 -- What is heard of the payload of a packet of port 137: of the items that stand whole, and of the front of the first one that
 -- doesn't (RFC 1002 sections 4.2.1 to 4.2.18; our choice where they are cut).
-use Rattle.std.specs.Prelude.{◌≡◌, ◌==◌, ◌&&◌, ℕ, ◌+◌, ◌*◌, ◌<◌, nat_le, nat_lt, Bool, true, false, not, List, [], ◌∷◌, length, map, filter, filter_map, Option, Some, None, if◌then◌else◌}
+use Rattle.std.specs.Prelude.{◌≡◌, ◌==◌, ◌&&◌, ℕ, ◌+◌, ◌*◌, ◌<◌, nat_lt, Bool, false, not, List, [], ◌∷◌, length, map, filter_map, Option, Some, None, if◌then◌else◌}
 use Rattle.std.specs.Int.{w16}
 use Rattle.std.specs.List.{flat_map}
 use Rattle.std.specs.Option.{option_or}

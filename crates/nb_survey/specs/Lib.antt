@@ -1,6 +1,7 @@
 pub mod Words
 pub mod Places
-pub mod PlaceFacts
+pub mod Keys
+pub mod KeyFacts
 pub mod Sayings
 pub mod Requests
 pub mod Telling

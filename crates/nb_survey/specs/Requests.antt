@@ -1,5 +1,5 @@
 -- The requests that responses are about: of a name the latest claim and the latest release at each address (our choice).
-use Rattle.std.specs.Prelude.{ℕ, ◌==◌, ◌&&◌, Bool, true, false, not, List, [], ◌∷◌, ◌++◌, filter, filter_map, fold, Option, Some, None, if◌then◌else◌}
+use Rattle.std.specs.Prelude.{◌==◌, ◌&&◌, Bool, true, false, not, List, [], ◌∷◌, ◌++◌, filter, filter_map, fold, Option, Some, None, if◌then◌else◌}
 use Rattle.std.specs.List.{list_any}
 use Rattle.nb_survey.specs.declared.heard.Facts.{Facts}
 use Rattle.nb_survey.specs.declared.heard.Said.{Said}

@@ -1,7 +1,9 @@
--- The table *names*: a row for each name and address of which something is said (our choice; docs/SUMMARY.md).
-use Rattle.std.specs.Prelude.{ℕ, ◌≡◌, ◌==◌, ◌+◌, ◌-◌, ◌^◌, min, not, Bool, true, false, List, [], ◌∷◌, filter, filter_map, Option, Some, None, unwrap_or, if◌then◌else◌}
+-- The table *names*: a row for each name and address of which something is said; and *refusals*: one for each name, address, sender
+-- and word that refuses the name (our choice; docs/SUMMARY.md).
+use Rattle.std.specs.Prelude.{ℕ, ◌==◌, ◌&&◌, ◌||◌, ◌+◌, nat_le, count_by, ◌-◌, ◌^◌, min, not, Bool, true, false, List, [], ◌∷◌, filter, filter_map, Option, Some, None, unwrap_or, if◌then◌else◌}
 use Rattle.std.specs.List.{last_or}
-use Rattle.std.specs.declared.net.ip_addr.IpAddr.{IpAddr}
+use Rattle.nb_survey.specs.declared.key.Key.{Key}
+use Rattle.nb_survey.specs.declared.key.Reason.{Reason}
 use Rattle.nb_survey.specs.declared.heard.Said.{Said}
 use Rattle.nb_survey.specs.declared.row.Half.{Half}
 use Rattle.nb_survey.specs.declared.row.Row.{Row}
@@ -10,8 +12,9 @@ use Rattle.nb_survey.specs.declared.word.Asking.{Asking}
 use Rattle.nb_survey.specs.declared.word.Asking.TheVariants.{Claim}
 use Rattle.nb_survey.specs.declared.word.Word.{Word}
 use Rattle.nb_survey.specs.declared.word.Word.TheVariants.{Granted}
+use Rattle.nb_survey.specs.Keys.{has_key, name_key, refusal_key}
 use Rattle.nb_survey.specs.Places.{same_address}
-use Rattle.nb_survey.specs.Words.{asking_of, is_own, is_refusal}
+use Rattle.nb_survey.specs.Words.{asking_of, is_own, is_refusal, is_standing, says_it_has}
 
 -- ---- what is looked at of a word that is said
 
@@ -59,6 +62,10 @@ is_grant _ = false
 abbrev pub granted_of : Said → Option ℕ
 granted_of said = if is_grant said.word then said.facts.ttl else None
 
+-- the MAC of a frame that its address sent itself
+abbrev pub mac_of : Said → Option (List ℕ)
+mac_of said = if same_address said.facts.frame.source said.place.address then said.facts.frame.mac else None
+
 -- ---- rows
 
 -- latest_of f said: the latest of these that has something, and what
@@ -93,6 +100,7 @@ row_from first said = record {
   refusals = tally refuses said;
   claimed = latest_of claimed_of said;
   granted = latest_of granted_of said;
+  mac = latest_of mac_of said;
 }
 
 -- the row of all words that are said of a name at an address; none where nothing is
@@ -100,10 +108,43 @@ abbrev pub row_of : List Said → Option Row
 row_of [] = None
 row_of (one ∷ later) = Some (row_from one.facts.frame.number (one ∷ later))
 
--- is_at address said: it is said of the name at this address
-abbrev pub is_at : IpAddr → Said → Bool
-is_at address said = same_address said.place.address address
+-- row_at key_of key said: the row of a table, by all that is said of its name, where these are the rows of words
+abbrev pub row_at : (Said → Option Key) → Key → List Said → Option Row
+row_at key_of key said = row_of (filter (λ s. has_key key (key_of s)) said)
 
--- row_at address said: the row of a name at an address, by all that is said of the name
-abbrev pub row_at : IpAddr → List Said → Option Row
-row_at address said = row_of (filter (is_at address) said)
+-- keys_of reason: the rows of words in the table in which rows have such a reason
+abbrev pub keys_of : Option Reason → Said → Option Key
+keys_of None = name_key
+keys_of (Some reason) = refusal_key
+
+-- ---- what a row says
+
+-- the later half of a row
+abbrev pub later : Row → Option Half
+later row = if row.is_own_later then row.own else row.others
+
+-- half_stands half: the address has the name by it, or asks for it
+abbrev pub half_stands : Option Half → Bool
+half_stands None = false
+half_stands (Some half) = is_standing half.word
+
+-- the later half of a row is standing
+abbrev pub stands : Row → Bool
+stands row = half_stands (later row)
+
+-- others say of its address that it has the name
+abbrev pub half_tells : Option Half → Bool
+half_tells None = false
+half_tells (Some half) = says_it_has half.word
+
+-- a row has a mark: its later half is neither standing nor `said to have it`
+abbrev pub is_marked : Row → Bool
+is_marked row = not (stands row || half_tells (later row))
+
+-- a row is standing, and not known to be a group's
+abbrev pub may_be_unique : Row → Bool
+may_be_unique row = stands row && not (unwrap_or row.group false)
+
+-- the table *several*: of these rows of a name at least two are standing, not all of them a group's
+abbrev pub are_several : List Row → Bool
+are_several rows = nat_le 2 (count_by stands rows) && nat_le 1 (count_by may_be_unique rows)

@@ -14,5 +14,6 @@ Sums survey packets = (name : List (List ℕ)) → is_whole survey name ≡ true
 -- so many names and rows are kept, and so many names that aren't kept are counted
 pub record IsBounded (survey : Survey) : Type 0 where
   pub names : btree_map_len survey.by_name ≤ MAX_NAMES
-  pub rows : btree_map_len survey.rows.rows ≤ MAX_ROWS
+  pub rows : btree_map_len survey.tables.names.rows ≤ MAX_ROWS
+  pub refusals : btree_map_len survey.tables.refusals.rows ≤ MAX_ROWS
   pub others : left_out survey ≤ MAX_NAMES

@@ -12,7 +12,9 @@ use nb_names::limits::POINTED_OFFSETS;
 use nb_names::{DomainName, Name, NameReader, Pointers, Scope};
 use nb_service::laws::one_item;
 use nb_service::limits::{HEADER_LENGTH, SHORT_PACKET};
-use nb_service::{AddressEntry, Header, Rdata, Record, Section, Seen, opcode, read_header, see_item};
+use nb_service::{
+    AddressEntry, Header, Rdata, Record, Section, Seen, opcode, read_header, see_item,
+};
 use nb_streams::NoMemory;
 use nb_streams::numbers::number_16;
 use std::alloc::Global;
@@ -88,8 +90,9 @@ fn hear_judged(
 fn first_of(names: &NameReader<'_, '_>, header: &Header) -> (Option<DomainName>, Option<u16>)
     ensures { IsFirst names.now (header_value header.now) result.0 result.1 }
 {
-    let records =
-        header.answers as usize + header.authorities as usize + header.additional as usize;
+    let records = header.answers as usize
+        + header.authorities as usize
+        + header.additional as usize;
     if header.questions as usize + records == 0 {
         return (None, None);
     }

@@ -3,9 +3,9 @@
 
 mod heard;
 mod hearing;
+mod key;
 pub mod laws;
 pub mod limits;
-mod place;
 mod requests;
 mod row;
 mod rows;
@@ -15,7 +15,8 @@ mod word;
 
 pub use heard::{Facts, Frame, Heard, Listed, Place, Said};
 pub use hearing::hear;
-pub use row::{Half, Row, Tally};
+pub use key::{Key, Reason};
+pub use row::{Half, Row, Tally, are_several};
 pub use saying::say;
 pub use survey::Survey;
 pub use word::{Asking, Word, word_of};

@@ -3,7 +3,7 @@ ghost use Rattle.std.specs.Prelude.{◌≡◌, IfOk, OnOk, filter, not};
 ghost use Rattle.nb_survey.specs.Requests.{answered, fits, last_fitting, renewed_by, replaces, request_of, same_asking};
 
 use crate::heard::{Facts, Said};
-use crate::place::same_address;
+use crate::key::same_address;
 use crate::word::Asking;
 use nb_streams::NoMemory;
 use std::alloc::Global;

@@ -1,9 +1,10 @@
 //! A row of the table of names.
-ghost use Rattle.std.specs.Prelude.{◌≡◌, [], ◌∷◌, None, if◌then◌else◌};
-ghost use Rattle.nb_survey.specs.Rows.{half_of, is_grant, row_from};
+ghost use Rattle.std.specs.Prelude.{◌≡◌, [], ◌∷◌, None, count_by, if◌then◌else◌};
+ghost use Rattle.nb_survey.specs.Rows.{are_several, half_of, is_grant, is_marked, later, may_be_unique, row_from, stands};
 ghost use Rattle.nb_survey.specs.Code.Steps.{after, counted};
 
 use crate::heard::Said;
+use crate::key::same_address;
 use crate::word::{Asking, Word};
 use std::net::IpAddr;
 
@@ -52,6 +53,8 @@ pub struct Row {
     pub claimed: Option<u32>,
     /// The TTL of the latest grant that has one, in seconds.
     pub granted: Option<u32>,
+    /// The MAC of the latest frame that the address sent itself and that says something here.
+    pub mac: Option<[u8; 6]>,
 }
 
 impl Tally {
@@ -124,6 +127,7 @@ impl Row {
             refusals: none,
             claimed: None,
             granted: None,
+            mac: None,
         };
         row.after(said)
     }
@@ -138,6 +142,7 @@ impl Row {
         let frame = Some(said.facts.frame.number);
         let is_refusal = said.word.is_refusal();
         let ttl = said.facts.ttl;
+        let is_sent = same_address(said.facts.frame.source, said.place.address);
         Row {
             first: self.first,
             group: said.group.or(self.group),
@@ -148,6 +153,66 @@ impl Row {
             refusals: self.refusals.counted(only_if(is_refusal, frame)),
             claimed: only_if(is_claim, ttl).or(self.claimed),
             granted: only_if(is_grant(said.word), ttl).or(self.granted),
+            mac: only_if(is_sent, said.facts.frame.mac).or(self.mac),
         }
     }
+
+    /// The later half.
+    pub fn later(&self) -> Option<Half>
+        ensures { result ≡ later self.now }
+    {
+        if self.is_own_later {
+            return self.own;
+        }
+        self.others
+    }
+
+    /// Whether its later half is standing.
+    pub fn is_standing(&self) -> bool
+        ensures { result ≡ stands self.now }
+    {
+        match self.later() {
+            Some(half) => half.word.is_standing(),
+            None => false,
+        }
+    }
+
+    /// Whether its later half is neither standing nor said to have it.
+    pub fn is_marked(&self) -> bool
+        ensures { result ≡ is_marked self.now }
+    {
+        match self.later() {
+            Some(half) => !half.word.is_standing() && !matches!(half.word, Word::SaidToHaveIt),
+            None => true,
+        }
+    }
+
+    /// Whether its later half is standing, and it isn't known to be a group's.
+    pub fn may_be_unique(&self) -> bool
+        ensures { result ≡ may_be_unique self.now }
+    {
+        self.is_standing() && !self.group.unwrap_or(false)
+    }
+}
+
+/// Whether these rows of a name are of the table of several: at least two are standing, and not all
+/// of those are a group's.
+pub fn are_several(rows: &[Row]) -> bool
+    ensures { result ≡ are_several rows.now }
+{
+    count_standing(rows) >= 2 && count_unique(rows) >= 1
+}
+
+/// How many of these rows are standing.
+fn count_standing(rows: &[Row]) -> usize
+    ensures { result ≡ count_by stands rows.now }
+{
+    rows.iter().filter(|row| row.is_standing()).count()
+}
+
+/// How many of these rows are standing, and not known to be a group's.
+fn count_unique(rows: &[Row]) -> usize
+    ensures { result ≡ count_by may_be_unique rows.now }
+{
+    rows.iter().filter(|row| row.may_be_unique()).count()
 }

@@ -1,26 +1,30 @@
 //! The tables of a summary, packet by packet.
 ghost use Rattle.std.specs.Prelude.{◌≡◌, ◌<◌, ◌++◌, ◌∷◌, [], ◌&&◌, ℕ, List, IfOk, OnOk, Some, true, filter};
+ghost use Rattle.std.specs.Map.{lookup};
 ghost use Rattle.nb_survey.specs.Code.Kept.{Hears, is_whole, Keeps, left_out};
+ghost use Rattle.nb_survey.specs.Keys.{name_key, refusal_key, same_key};
 ghost use Rattle.nb_survey.specs.Requests.{renewed_by, request_of};
-ghost use Rattle.nb_survey.specs.Rows.{row_at};
+ghost use Rattle.nb_survey.specs.Rows.{keys_of, row_at};
 ghost use Rattle.nb_survey.specs.Sums.{IsBounded, Sums};
 ghost use Rattle.nb_survey.specs.Telling.{about, answer_of, answers_to, group_at, is_about, of_request, told, words_of};
 ghost use Rattle.nb_survey.specs.Words.{word_of};
 ghost use Rattle.nb_survey.specs.declared.heard.Heard.{Heard as HeardValue};
 ghost use Rattle.nb_survey.specs.declared.heard.Said.{Said as SaidValue};
+ghost use Rattle.nb_survey.specs.declared.key.Key.{Key as KeyValue};
 
-use crate::heard::{Heard, Place, Said};
+use crate::heard::{Heard, Said};
+use crate::key::{Key, same_address};
 use crate::limits::MAX_NAMES;
-use crate::place::same_address;
 use crate::requests::{Request, answered, renew};
 use crate::row::Row;
-use crate::rows::Rows;
+use crate::rows::Tables;
 use crate::saying::{said_at, say};
 use crate::word::{Asking, Word, word_of};
 use nb_names::DomainName;
 use nb_service::{AddressEntry, opcode};
 use nb_streams::NoMemory;
 use std::alloc::Global;
+use std::collections::btree_map::Iter;
 use std::collections::{BTreeMap, BTreeSet};
 use std::net::{IpAddr, Ipv4Addr};
 
@@ -54,7 +58,7 @@ impl Kept {
 pub struct Survey {
     alloc: Global,
     by_name: BTreeMap<DomainName, Kept>,
-    rows: Rows,
+    tables: Tables,
     /// Names that found no room.
     others: BTreeSet<DomainName>,
 }
@@ -68,7 +72,7 @@ impl Survey {
         Survey {
             alloc,
             by_name: BTreeMap::new(alloc),
-            rows: Rows::new(alloc),
+            tables: Tables::new(alloc),
             others: BTreeSet::new(alloc),
         }
     }
@@ -87,14 +91,36 @@ impl Survey {
         self.hear_all(said.as_slice())
     }
 
-    /// The row of a name at an address, by all packets so far; none where they say nothing of it.
-    /// It may lack some of what they say where not [all](Survey::is_whole) of the name is kept.
-    pub fn row(&self, place: &Place) -> Option<Row>
+    /// A row of the table of names, or of that of refusals where the key has a reason, by all
+    /// packets so far; none where they say nothing of it. It may lack some of what they say where
+    /// not [all](Survey::is_whole) of the name is kept.
+    pub fn row(&self, key: &Key) -> Option<Row>
         ensures { (packets : List HeardValue) → Sums self.now packets →
-            is_whole self.now place.now.name ≡ true →
-            result ≡ row_at place.now.address (words_of place.now.name packets) }
+            is_whole self.now key.now.name ≡ true → result
+            ≡ row_at (keys_of key.now.reason) key.now (words_of key.now.name packets) }
     {
-        self.rows.row(place)
+        match key.reason {
+            None => self.tables.names.row(key),
+            Some(_) => self.tables.refusals.row(key),
+        }
+    }
+
+    /// The rows of the table of names, in their order.
+    pub fn names(&self) -> Iter<'_, Key, Row>
+        ensures { (packets : List HeardValue) → Sums self.now packets → (key : KeyValue) →
+            is_whole self.now key.name ≡ true →
+            lookup (same_key key) result ≡ row_at name_key key (words_of key.name packets) }
+    {
+        self.tables.names.iter()
+    }
+
+    /// The rows of the table of refusals, in their order.
+    pub fn refusals(&self) -> Iter<'_, Key, Row>
+        ensures { (packets : List HeardValue) → Sums self.now packets → (key : KeyValue) →
+            is_whole self.now key.name ≡ true →
+            lookup (same_key key) result ≡ row_at refusal_key key (words_of key.name packets) }
+    {
+        self.tables.refusals.iter()
     }
 
     /// Whether all is kept that the packets say of a name. Of a name without rows it isn't known
@@ -135,7 +161,7 @@ impl Survey {
     {
         let name = &said.place.name;
         if let Some(kept) = self.by_name.get_mut(name) {
-            let has_room = self.rows.hear(said)?;
+            let has_room = self.tables.hear(said)?;
             return kept.hear(said, has_room);
         }
         if self.by_name.len() >= MAX_NAMES || self.others.len() > 0 {
@@ -145,7 +171,7 @@ impl Survey {
             is_whole: true,
             requests: Vec::new(self.alloc),
         };
-        let has_room = self.rows.hear(said)?;
+        let has_room = self.tables.hear(said)?;
         kept.hear(said, has_room)?;
         self.by_name.insert(name.copied(), kept)?;
         Ok(())

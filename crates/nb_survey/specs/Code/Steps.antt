@@ -4,7 +4,7 @@ use Rattle.std.specs.Option.{option_or}
 use Rattle.nb_survey.specs.declared.heard.Said.{Said}
 use Rattle.nb_survey.specs.declared.row.Row.{Row}
 use Rattle.nb_survey.specs.declared.row.Tally.{Tally}
-use Rattle.nb_survey.specs.Rows.{claimed_of, frame_where, granted_of, is_claim, others_of, own_of, refuses, row_from}
+use Rattle.nb_survey.specs.Rows.{claimed_of, frame_where, granted_of, is_claim, mac_of, others_of, own_of, refuses, row_from}
 use Rattle.nb_survey.specs.Words.{is_own}
 
 -- is_last frame last: this frame is the last one
@@ -32,6 +32,7 @@ after row said = record {
   refusals = counted row.refusals (frame_where refuses said);
   claimed = option_or (claimed_of said) row.claimed;
   granted = option_or (granted_of said) row.granted;
+  mac = option_or (mac_of said) row.mac;
 }
 
 -- the row of a name at an address, after one more word

@@ -53,7 +53,7 @@ returns-in-Err c =
         header_there = c.requires.header;
         items_there = far.1;
         no_further = λ item after i. c.one_item.ensures.alone bytes header c.items.number c.items.at c.in-Err.field-0 item after fails
-          (subst (λ (k : ℕ). ItemAt bytes header k c.items.at item after) far.2 i);
+            (subst (λ (k : ℕ). ItemAt bytes header k c.items.at item after) far.2 i);
       };
       whole = sym (ap not (lt-ltb (length far.0) (item_count header) (omega (arith, low, far.2))));
       has = far.4;

@@ -1,3 +1,6 @@
 pub mod PlaceLemmas
 pub mod RequestLemmas
 pub mod RowLemmas
+pub mod KeepLemmas
+pub mod TellLemmas
+pub mod HearingLemmas

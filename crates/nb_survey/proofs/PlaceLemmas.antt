@@ -1,40 +1,13 @@
--- Names at addresses that stand at one place of an order are one.
-use Rattle.std.proofs.Common.{ℕ, ◌≡◌, refl, List, true}
-use Rattle.std.specs.Ordering.{ordering_then}
+-- Names that stand at one place of an order are one.
+use Rattle.std.proofs.Common.{ℕ, ◌≡◌, List, true}
 use Rattle.std.specs.Cmp.{Equal-is}
 use Rattle.std.specs.FinMap.{IsAntisymmetric, nat_cmp-IsAntisymmetric, slice_cmp-IsAntisymmetric}
-use Rattle.std.specs.declared.cmp.Ordering.{Ordering}
-use Rattle.std.specs.declared.cmp.Ordering.TheVariants.{Less, Equal, Greater}
-use Rattle.std.specs.declared.net.ip_addr.IpAddr.TheVariants.{V4, V6}
 use Rattle.nb_names.specs.DomainName.{domain_cmp}
 use Rattle.nb_names.specs.NameFacts.{spelling-injective}
-use Rattle.nb_survey.specs.declared.heard.Place.{Place}
-use Rattle.nb_survey.specs.Places.{address_cmp, place_cmp, place_eq, same_name}
-
-both_tie : (a b : Ordering) → ordering_then a b ≡ Equal → (a ≡ Equal) × (b ≡ Equal)
-both_tie Less b e = absurd (cc)
-both_tie Equal b e = (refl, e)
-both_tie Greater b e = absurd (cc)
+use Rattle.nb_survey.specs.Places.{same_name}
 
 pub domain_cmp_exact : IsAntisymmetric domain_cmp
 domain_cmp_exact a b e = spelling-injective a b (slice_cmp-IsAntisymmetric nat_cmp-IsAntisymmetric _ _ e)
-
-pub address_cmp_exact : IsAntisymmetric address_cmp
-address_cmp_exact (V4 a) (V4 b) e =
-    let octets = slice_cmp-IsAntisymmetric nat_cmp-IsAntisymmetric a.octets b.octets e in
-    λ i. V4 (record { octets = octets i })
-address_cmp_exact (V4 a) (V6 b) e = absurd (cc)
-address_cmp_exact (V6 a) (V4 b) e = absurd (cc)
-address_cmp_exact (V6 a) (V6 b) e =
-    let segments = slice_cmp-IsAntisymmetric nat_cmp-IsAntisymmetric a.segments b.segments e in
-    λ i. V6 (record { segments = segments i })
-
-pub place_exact : (a b : Place) → place_eq a b ≡ true → a ≡ b
-place_exact a b h =
-    let both = both_tie _ _ ((Equal-is (place_cmp a b)).0 h) in
-    let name = domain_cmp_exact a.name b.name both.0 in
-    let address = address_cmp_exact a.address b.address both.1 in
-    λ i. record { name = name i; address = address i }
 
 pub name_exact : (a b : List (List ℕ)) → same_name a b ≡ true → a ≡ b
 name_exact a b h = domain_cmp_exact a b ((Equal-is (domain_cmp a b)).0 h)

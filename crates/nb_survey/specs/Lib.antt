@@ -1,10 +1,12 @@
 pub mod Words
 pub mod Places
-pub mod PlaceFacts
+pub mod Keys
+pub mod KeyFacts
 pub mod Sayings
 pub mod Requests
 pub mod Telling
 pub mod Rows
 pub mod Sums
+pub mod Hearing
 pub mod Code
 pub mod Examples

@@ -1,4 +1,4 @@
--- Names at addresses: when two are one, and their order (our choice): by the name, then by the address, those of IPv4 first.
+-- Names and addresses: when two are one, and the order of addresses (our choice): those of IPv4 first.
 use Rattle.std.specs.Prelude.{ℕ, Bool, List}
 use Rattle.std.specs.Ordering.{nat_cmp, on, then_cmp, eq_by_cmp}
 use Rattle.std.specs.Cmp.Lexicographic.{slice_cmp}
@@ -6,7 +6,6 @@ use Rattle.std.specs.declared.cmp.Ordering.{Ordering}
 use Rattle.std.specs.declared.net.ip_addr.IpAddr.{IpAddr}
 use Rattle.std.specs.declared.net.ip_addr.IpAddr.TheVariants.{V4, V6}
 use Rattle.nb_names.specs.DomainName.{domain_cmp}
-use Rattle.nb_survey.specs.declared.heard.Place.{Place}
 
 -- the version of IP
 abbrev pub version_of : IpAddr → ℕ
@@ -29,11 +28,3 @@ same_address = eq_by_cmp address_cmp
 -- two names are one
 abbrev pub same_name : List (List ℕ) → List (List ℕ) → Bool
 same_name = eq_by_cmp domain_cmp
-
--- the order of names at addresses
-abbrev pub place_cmp : Place → Place → Ordering
-place_cmp = then_cmp (on (λ p. p.name) domain_cmp) (on (λ p. p.address) address_cmp)
-
--- they are one name at one address
-abbrev pub place_eq : Place → Place → Bool
-place_eq = eq_by_cmp place_cmp

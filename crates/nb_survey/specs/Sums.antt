@@ -1,21 +1,19 @@
 -- What a survey keeps of all that the packets say.
-use Rattle.std.specs.Prelude.{List}
+use Rattle.std.specs.Prelude.{◌≡◌, ℕ, ◌≤◌, true, List}
+use Rattle.std.specs.BTreeMap.{btree_map_len}
 use Rattle.nb_survey.specs.declared.heard.Heard.{Heard}
-use Rattle.nb_survey.specs.declared.heard.Said.{Said}
 use Rattle.nb_survey.specs.declared.survey.Survey.{Survey}
-use Rattle.nb_survey.specs.declared.word.Asking.TheVariants.{Claim, Release}
-use Rattle.nb_survey.specs.Code.Kept.{kept_row, requests_of}
-use Rattle.nb_survey.specs.Requests.{Remembers}
-use Rattle.nb_survey.specs.Rows.{AreRows}
-use Rattle.nb_survey.specs.Telling.{all_said}
+use Rattle.nb_survey.specs.declared.limits.TheConstants.{MAX_NAMES, MAX_ROWS}
+use Rattle.nb_survey.specs.Code.Kept.{is_whole, Keeps, left_out}
+use Rattle.nb_survey.specs.Telling.{words_of}
 
--- SumsSaid survey said: the survey keeps what all these words say: the row of each name at each address, and of each name the latest
--- claims and releases
-pub record SumsSaid (survey : Survey) (said : List Said) : Type 0 where
-  pub rows : AreRows (kept_row survey.rows) said
-  pub claims : Remembers Claim (requests_of survey.claims) said
-  pub releases : Remembers Release (requests_of survey.releases) said
-
--- Sums survey packets: the survey keeps what all these packets say, in their order
+-- Sums survey packets: of each name of which nothing is left out, the survey keeps what all these packets say, in their order
 abbrev pub Sums : Survey → List Heard → Type 0
-Sums survey packets = SumsSaid survey (all_said packets)
+Sums survey packets = (name : List (List ℕ)) → is_whole survey name ≡ true → Keeps survey name (words_of name packets)
+
+-- so many names and rows are kept, and so many names that aren't kept are counted
+pub record IsBounded (survey : Survey) : Type 0 where
+  pub names : btree_map_len survey.by_name ≤ MAX_NAMES
+  pub rows : btree_map_len survey.tables.names.rows ≤ MAX_ROWS
+  pub refusals : btree_map_len survey.tables.refusals.rows ≤ MAX_ROWS
+  pub others : left_out survey ≤ MAX_NAMES

@@ -1,6 +1,7 @@
--- All that the packets of a capture say, in order (our choice; docs/SUMMARY.md): a response to a claim or a release says it of the
+-- All that the packets of a capture say of a name, in order (our choice; docs/SUMMARY.md): a response to a claim or a release says it of the
 -- addresses of the request that it answers, where there is one.
-use Rattle.std.specs.Prelude.{ℕ, ◌==◌, ◌||◌, Bool, false, List, [], ◌∷◌, ◌++◌, map, fold, Option, Some, None, if◌then◌else◌}
+use Rattle.std.specs.Prelude.{ℕ, ◌==◌, ◌||◌, Bool, false, List, [], ◌∷◌, ◌++◌, map, filter, fold, Option, Some, None, if◌then◌else◌}
+use Rattle.std.specs.List.{list_any}
 use Rattle.std.specs.declared.net.ip_addr.IpAddr.{IpAddr}
 use Rattle.nb_service.specs.Header.{opcode_of}
 use Rattle.nb_service.specs.declared.views.AddressEntry.{AddressEntry}
@@ -10,7 +11,7 @@ use Rattle.nb_survey.specs.declared.requests.Request.{Request}
 use Rattle.nb_survey.specs.declared.word.Asking.{Asking}
 use Rattle.nb_survey.specs.declared.word.Asking.TheVariants.{Claim, Release}
 use Rattle.nb_survey.specs.declared.word.Word.{Word}
-use Rattle.nb_survey.specs.Places.{same_address}
+use Rattle.nb_survey.specs.Places.{same_address, same_name}
 use Rattle.nb_survey.specs.Requests.{answered, latest, requests}
 use Rattle.nb_survey.specs.Sayings.{address_of, said_at, sayings}
 use Rattle.nb_survey.specs.Words.{has, tells_group, word_of}
@@ -48,16 +49,29 @@ about heard None name found = sayings heard
 about heard (Some word) name [] = sayings heard
 about heard (Some word) name (request ∷ more) = map (of_request heard name word) (request ∷ more)
 
--- told_by answer name before heard: what a packet says that answers this, after all that was said before
+-- told_by answer name before heard: what a packet says that answers this, where these words were said of its name before
 abbrev pub told_by : Option Asking → Option (List (List ℕ)) → List Said → Heard → List Said
 told_by (Some asking) (Some name) before heard =
-    about heard (word_of heard.flags) name (answered heard.facts (latest (requests asking name before)))
+    about heard (word_of heard.flags) name (answered asking heard.facts (latest (requests before)))
 told_by _ _ before heard = sayings heard
 
--- what a packet says after all that was said before
+-- told before heard: what a packet says, where these words were said of its name before
 abbrev pub told : List Said → Heard → List Said
 told before heard = told_by (answer_of heard) heard.name before heard
 
--- all that the packets say
-abbrev pub all_said : List Heard → List Said
-all_said = fold (λ before heard. before ++ told before heard) []
+-- it is said of this name
+abbrev pub is_about : List (List ℕ) → Said → Bool
+is_about name said = same_name said.place.name name
+
+-- words_of name packets: all that the packets say of a name, in order
+abbrev pub words_of : List (List ℕ) → List Heard → List Said
+words_of name = fold (λ before heard. before ++ filter (is_about name) (told before heard)) []
+
+-- is_its name heard: a packet is about this name
+abbrev pub is_its : List (List ℕ) → Option (List (List ℕ)) → Bool
+is_its name None = false
+is_its name (Some other) = same_name other name
+
+-- mentions name heard: a packet is about this name, or lists it
+abbrev pub mentions : List (List ℕ) → Heard → Bool
+mentions name heard = is_its name heard.name || list_any (λ listed. same_name listed.name name) heard.listed.items

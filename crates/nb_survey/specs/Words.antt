@@ -70,6 +70,11 @@ is_standing Answers = true
 is_standing Lists = true
 is_standing _ = false
 
+-- another station says that the address has the name
+abbrev pub says_it_has : Word → Bool
+says_it_has SaidToHaveIt = true
+says_it_has _ = false
+
 -- it refuses a name, or says that it is in conflict
 abbrev pub is_refusal : Word → Bool
 is_refusal ToldOfConflict = true

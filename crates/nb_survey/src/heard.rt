@@ -17,6 +17,10 @@ pub struct Frame {
     pub source: IpAddr,
     /// Where it goes.
     pub target: IpAddr,
+    /// The MAC that it comes from.
+    pub mac: Option<[u8; 6]>,
+    /// Whether the MAC that it goes to is a group's; none where there is none.
+    pub is_to_group: Option<bool>,
 }
 
 /// What rows have of a packet itself.
@@ -52,6 +56,8 @@ pub struct Heard {
     pub flags: u16,
     /// The name of its first question, else of its first record; none where none stands.
     pub name: Option<DomainName>,
+    /// The type of that question or record; none where it doesn't stand.
+    pub kind: Option<u16>,
     /// The entries of the NB records of its name.
     pub entries: Vec<AddressEntry>,
     /// The names of its node statuses.

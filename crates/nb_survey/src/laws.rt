@@ -1,13 +1,14 @@
 //! Laws of the definitions that the contracts cite. Each is proved; a call does nothing.
-ghost use Rattle.std.specs.Prelude.{◌≡◌, ℕ, [], ◌∷◌, ◌++◌, List, Some, None, true, false, codes, replicate};
+ghost use Rattle.std.specs.Prelude.{◌≡◌, ℕ, [], ◌∷◌, ◌++◌, List, Some, None, true, false, codes, option_map, replicate};
 ghost use Rattle.nb_names.specs.FirstLevel.{letters};
+ghost use Rattle.nb_service.specs.Record.{of_bytes, ResourceRecord};
 ghost use Rattle.nb_survey.specs.Examples.{fred, IsFrom, seven, eight};
-ghost use Rattle.nb_survey.specs.Places.{place_eq};
-ghost use Rattle.nb_survey.specs.Rows.{row_at};
+ghost use Rattle.nb_survey.specs.Hearing.{operation_of, own_entries, scope_of};
+ghost use Rattle.nb_survey.specs.Rows.{is_marked, packets, row_of, stands};
 ghost use Rattle.nb_survey.specs.Sayings.{is_wildcard, listed_word, said_at, sayings};
+ghost use Rattle.nb_survey.specs.Telling.{mentions, words_of};
 ghost use Rattle.nb_survey.specs.Words.{asking_of, is_own, word_of};
 ghost use Rattle.nb_survey.specs.declared.heard.Heard.{Heard};
-ghost use Rattle.nb_survey.specs.declared.heard.Place.{Place};
 ghost use Rattle.nb_survey.specs.declared.heard.Said.{Said};
 ghost use Rattle.nb_survey.specs.declared.word.Asking.{Asking};
 ghost use Rattle.nb_survey.specs.declared.word.Word.{Word};
@@ -65,9 +66,41 @@ pub fn packets()
         sayings heard ≡ said_at heard fred seven Granted (Some true) ∷ [] }
 {}
 
-/// What is said of another name, or at another address, changes no row, wherever it is said.
+/// What records have: the NB entries of one of its name, in order, and none of another's; names of
+/// a node status in the scope of its RR_NAME; the operation of a release in the RDATA of a wait
+/// acknowledgement.
+pub fn records()
+    ensures entries { (entry : ResourceRecord) → entry.name ≡ fred → entry.kind ≡ 32 →
+        entry.rdata ≡ of_bytes (96 ∷ 0 ∷ 10 ∷ 0 ∷ 0 ∷ 7 ∷ 224 ∷ 0 ∷ 10 ∷ 0 ∷ 0 ∷ 8 ∷ []) →
+        own_entries (Some fred) entry ≡ record { flags = 24576; address = 10 ∷ 0 ∷ 0 ∷ 7 ∷ [] }
+        ∷ record { flags = 57344; address = 10 ∷ 0 ∷ 0 ∷ 8 ∷ [] } ∷ [] }
+    ensures others { (entry : ResourceRecord) → entry.name ≡ fred ++ codes "NET" ∷ [] →
+        own_entries (Some fred) entry ≡ [] }
+    ensures scopes { (scope_of (fred ++ codes "NET" ∷ []) ≡ codes "NET" ∷ [])
+        × (scope_of (codes "NET" ∷ []) ≡ []) }
+    ensures waits { operation_of (of_bytes (48 ∷ 16 ∷ [])) ≡ Some 6 }
+{}
+
+/// How many packets have a word, by the frames of words, and what a claim and its refusal make of a
+/// row: one of each, and the latter is the later one.
+pub fn rows()
+    ensures counts { packets (1 ∷ 1 ∷ 2 ∷ 1 ∷ 3 ∷ []) ≡ 4 }
+    ensures refused { (claim refusal : Said) → claim.word ≡ Claims → refusal.word ≡ Refused 6 →
+        let row = row_of (claim ∷ refusal ∷ []) in
+        (option_map (λ row. row.is_own_later) row ≡ Some false)
+        × (option_map (λ row. row.claims.packets) row ≡ Some 1)
+        × (option_map (λ row. row.refusals.packets) row ≡ Some 1) }
+    ensures marked { (claim refusal : Said) → claim.word ≡ Claims → refusal.word ≡ Refused 6 →
+        option_map is_marked (row_of (claim ∷ refusal ∷ [])) ≡ Some true }
+    ensures stands { (release claim : Said) → release.word ≡ GivesUp → claim.word ≡ Refreshes →
+        option_map stands (row_of (release ∷ claim ∷ [])) ≡ Some true }
+{}
+
+/// A packet that is about another name, and doesn't list this one, changes no word that is said of
+/// this one, and so no row, wherever it stands.
+#[tactic(auto, using(crate::proofs::TellLemmas::silent))]
 pub fn others_change_nothing()
-    ensures { (place : Place) (before later : List Said) (other : Said) →
-        place_eq other.place place ≡ false →
-        row_at place (before ++ other ∷ later) ≡ row_at place (before ++ later) }
+    ensures { (name : List (List ℕ)) (before later : List Heard) (other : Heard) →
+        mentions name other ≡ false →
+        words_of name (before ++ other ∷ later) ≡ words_of name (before ++ later) }
 {}

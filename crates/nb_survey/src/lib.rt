@@ -2,8 +2,10 @@
 #![tactic(auto)]
 
 mod heard;
+mod hearing;
+mod key;
 pub mod laws;
-mod place;
+pub mod limits;
 mod requests;
 mod row;
 mod rows;
@@ -12,7 +14,9 @@ mod survey;
 mod word;
 
 pub use heard::{Facts, Frame, Heard, Listed, Place, Said};
-pub use row::{Half, Row};
+pub use hearing::hear;
+pub use key::{Key, Reason};
+pub use row::{Half, Row, Tally, are_several};
 pub use saying::say;
 pub use survey::Survey;
 pub use word::{Asking, Word, word_of};

@@ -1,10 +1,10 @@
 //! A row of the table of names.
-ghost use Rattle.std.specs.Prelude.{◌≡◌, [], ◌∷◌, None, if◌then◌else◌};
-ghost use Rattle.nb_survey.specs.Rows.{half_of, is_grant, row_from};
-ghost use Rattle.nb_survey.specs.Code.Steps.{after, newer, one_more};
+ghost use Rattle.std.specs.Prelude.{◌≡◌, [], ◌∷◌, None, count_by, if◌then◌else◌};
+ghost use Rattle.nb_survey.specs.Rows.{are_several, half_of, is_grant, is_marked, later, may_be_unique, row_from, stands};
+ghost use Rattle.nb_survey.specs.Code.Steps.{after, counted};
 
 use crate::heard::Said;
-use crate::requests::is_of;
+use crate::key::same_address;
 use crate::word::{Asking, Word};
 use std::net::IpAddr;
 
@@ -23,6 +23,15 @@ pub struct Half {
     pub time: Option<u64>,
 }
 
+/// How many packets say something of a name at an address.
+#[derive(Clone, Copy, Debug, PartialEq, Eq)]
+pub struct Tally {
+    /// How many, repeats too.
+    pub packets: u64,
+    /// The frame of the last one.
+    pub last: Option<u64>,
+}
+
 /// A name at an address, by all that is said of it.
 #[derive(Clone, Copy, Debug, PartialEq, Eq)]
 pub struct Row {
@@ -36,33 +45,34 @@ pub struct Row {
     pub others: Option<Half>,
     /// Whether the later of both is its own.
     pub is_own_later: bool,
-    /// How many words claim it: one a packet, unless its record has the address twice.
-    pub claims: u64,
-    /// How many words refuse it, or say that it is in conflict.
-    pub refusals: u64,
+    /// How many packets claim it.
+    pub claims: Tally,
+    /// How many refuse it, or say that it is in conflict.
+    pub refusals: Tally,
     /// The TTL of the latest claim that has one, in seconds.
     pub claimed: Option<u32>,
     /// The TTL of the latest grant that has one, in seconds.
     pub granted: Option<u32>,
+    /// The MAC of the latest frame that the address sent itself and that says something here.
+    pub mac: Option<[u8; 6]>,
 }
 
-/// One more, where something is so; a count stays at the greatest number.
-fn one_more(count: u64, is_so: bool) -> u64
-    ensures { result ≡ one_more count is_so }
-{
-    if is_so {
-        return count.saturating_add(1);
-    }
-    count
-}
-
-/// The newer of two values, where there is one.
-fn newer<T: Copy>(new: Option<T>, old: Option<T>) -> Option<T>
-    ensures { result ≡ newer new old }
-{
-    match new {
-        Some(_) => new,
-        None => old,
+impl Tally {
+    /// The tally, after one more word, with its frame where that counts.
+    fn counted(self, frame: Option<u64>) -> Tally
+        ensures { result ≡ counted self frame }
+    {
+        let Some(frame) = frame else {
+            return self;
+        };
+        let packets = match self.last {
+            Some(last) if last == frame => self.packets,
+            _ => self.packets.saturating_add(1),
+        };
+        Tally {
+            packets,
+            last: Some(frame),
+        }
     }
 }
 
@@ -103,16 +113,21 @@ impl Row {
     pub(crate) fn first(said: &Said) -> Row
         ensures { result ≡ row_from said.now.facts.frame.number (said.now ∷ []) }
     {
+        let none = Tally {
+            packets: 0,
+            last: None,
+        };
         let row = Row {
             first: said.facts.frame.number,
             group: None,
             own: None,
             others: None,
             is_own_later: false,
-            claims: 0,
-            refusals: 0,
+            claims: none,
+            refusals: none,
             claimed: None,
             granted: None,
+            mac: None,
         };
         row.after(said)
     }
@@ -123,19 +138,81 @@ impl Row {
     {
         let half = Some(said.half());
         let is_own = said.word.is_own();
-        let is_claim = is_of(Asking::Claim, said.word.asking());
+        let is_claim = matches!(said.word.asking(), Some(Asking::Claim));
+        let frame = Some(said.facts.frame.number);
         let is_refusal = said.word.is_refusal();
         let ttl = said.facts.ttl;
+        let is_sent = same_address(said.facts.frame.source, said.place.address);
         Row {
             first: self.first,
-            group: newer(said.group, self.group),
-            own: newer(only_if(is_own, half), self.own),
-            others: newer(only_if(!is_own, half), self.others),
+            group: said.group.or(self.group),
+            own: only_if(is_own, half).or(self.own),
+            others: only_if(!is_own, half).or(self.others),
             is_own_later: is_own,
-            claims: one_more(self.claims, is_claim),
-            refusals: one_more(self.refusals, is_refusal),
-            claimed: newer(only_if(is_claim, ttl), self.claimed),
-            granted: newer(only_if(is_grant(said.word), ttl), self.granted),
+            claims: self.claims.counted(only_if(is_claim, frame)),
+            refusals: self.refusals.counted(only_if(is_refusal, frame)),
+            claimed: only_if(is_claim, ttl).or(self.claimed),
+            granted: only_if(is_grant(said.word), ttl).or(self.granted),
+            mac: only_if(is_sent, said.facts.frame.mac).or(self.mac),
         }
     }
+
+    /// The later half.
+    pub fn later(&self) -> Option<Half>
+        ensures { result ≡ later self.now }
+    {
+        if self.is_own_later {
+            return self.own;
+        }
+        self.others
+    }
+
+    /// Whether its later half is standing.
+    pub fn is_standing(&self) -> bool
+        ensures { result ≡ stands self.now }
+    {
+        match self.later() {
+            Some(half) => half.word.is_standing(),
+            None => false,
+        }
+    }
+
+    /// Whether its later half is neither standing nor said to have it.
+    pub fn is_marked(&self) -> bool
+        ensures { result ≡ is_marked self.now }
+    {
+        match self.later() {
+            Some(half) => !half.word.is_standing() && !matches!(half.word, Word::SaidToHaveIt),
+            None => true,
+        }
+    }
+
+    /// Whether its later half is standing, and it isn't known to be a group's.
+    pub fn may_be_unique(&self) -> bool
+        ensures { result ≡ may_be_unique self.now }
+    {
+        self.is_standing() && !self.group.unwrap_or(false)
+    }
+}
+
+/// Whether these rows of a name are of the table of several: at least two are standing, and not all
+/// of those are a group's.
+pub fn are_several(rows: &[Row]) -> bool
+    ensures { result ≡ are_several rows.now }
+{
+    count_standing(rows) >= 2 && count_unique(rows) >= 1
+}
+
+/// How many of these rows are standing.
+fn count_standing(rows: &[Row]) -> usize
+    ensures { result ≡ count_by stands rows.now }
+{
+    rows.iter().filter(|row| row.is_standing()).count()
+}
+
+/// How many of these rows are standing, and not known to be a group's.
+fn count_unique(rows: &[Row]) -> usize
+    ensures { result ≡ count_by may_be_unique rows.now }
+{
+    rows.iter().filter(|row| row.may_be_unique()).count()
 }

@@ -3,7 +3,7 @@ ghost use Rattle.std.specs.Prelude.{◌≡◌, ◌++◌, ◌∷◌, [], OnOk, If
 ghost use Rattle.nb_survey.specs.Sayings.{group_told, is_of_a_name, is_of_record, is_positive, is_wildcard, listed_word, of_entry, of_listed, of_name, of_record, said_at, sayings, word_from, worded};
 
 use crate::heard::{Heard, Listed, Place, Said};
-use crate::place::same_address;
+use crate::key::same_address;
 use crate::word::{Word, word_of};
 use nb_names::DomainName;
 use nb_service::{AddressEntry, opcode, rcode};

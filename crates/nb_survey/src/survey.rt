@@ -1,46 +1,79 @@
 //! The tables of a summary, packet by packet.
-ghost use Rattle.std.specs.Prelude.{◌≡◌, ◌++◌, ◌∷◌, [], List, IfOk, OnOk, Some};
-ghost use Rattle.nb_survey.specs.Rows.{row_at};
-ghost use Rattle.nb_survey.specs.Sums.{Sums, SumsSaid};
+ghost use Rattle.std.specs.Prelude.{◌≡◌, ◌<◌, ◌++◌, ◌∷◌, [], ◌&&◌, ℕ, List, IfOk, OnOk, Some, true, filter};
+ghost use Rattle.std.specs.Map.{lookup};
+ghost use Rattle.nb_survey.specs.Code.Kept.{Hears, is_whole, Keeps, left_out};
+ghost use Rattle.nb_survey.specs.Keys.{name_key, refusal_key, same_key};
+ghost use Rattle.nb_survey.specs.Requests.{renewed_by, request_of};
+ghost use Rattle.nb_survey.specs.Rows.{keys_of, row_at};
+ghost use Rattle.nb_survey.specs.Sums.{IsBounded, Sums};
+ghost use Rattle.nb_survey.specs.Telling.{about, answer_of, answers_to, group_at, is_about, of_request, told, words_of};
 ghost use Rattle.nb_survey.specs.Words.{word_of};
-ghost use Rattle.nb_survey.specs.Telling.{about, all_said, answer_of, answers_to, group_at, of_request, told, told_by};
-ghost use Rattle.nb_survey.specs.Code.Kept.{requests_of};
-ghost use Rattle.nb_survey.specs.Requests.{Remembers};
 ghost use Rattle.nb_survey.specs.declared.heard.Heard.{Heard as HeardValue};
 ghost use Rattle.nb_survey.specs.declared.heard.Said.{Said as SaidValue};
+ghost use Rattle.nb_survey.specs.declared.key.Key.{Key as KeyValue};
 
-use crate::heard::{Heard, Place, Said};
-use crate::place::same_address;
-use crate::requests::{Request, Requests};
+use crate::heard::{Heard, Said};
+use crate::key::{Key, same_address};
+use crate::limits::MAX_NAMES;
+use crate::requests::{Request, answered, renew};
 use crate::row::Row;
-use crate::rows::Rows;
+use crate::rows::Tables;
 use crate::saying::{said_at, say};
 use crate::word::{Asking, Word, word_of};
 use nb_names::DomainName;
 use nb_service::{AddressEntry, opcode};
 use nb_streams::NoMemory;
 use std::alloc::Global;
+use std::collections::btree_map::Iter;
+use std::collections::{BTreeMap, BTreeSet};
 use std::net::{IpAddr, Ipv4Addr};
+
+/// What is kept of a name besides its rows.
+#[derive(Drop)]
+pub(crate) struct Kept {
+    /// Whether all of its rows are kept.
+    is_whole: bool,
+    /// Its latest requests, one for each address and what is asked.
+    requests: Vec<Request>,
+}
+
+impl Kept {
+    /// Takes a word that is said of the name, whose row had room or not. Requests are remembered of
+    /// addresses that have rows, two for each at most.
+    fn hear(&mut self, said: &Said, has_room: bool) -> Result<(), NoMemory>
+        ensures whole { self.new.is_whole ≡ (has_room && self.old.is_whole) }
+        ensures asked { OnOk result (has_room ≡ true → self.new.requests.items
+            ≡ renewed_by self.old.requests.items (request_of said.now)) }
+    {
+        if !has_room {
+            self.is_whole = false;
+            return Ok(());
+        }
+        renew(&mut self.requests, said)
+    }
+}
 
 /// What the packets of a capture say of names.
 #[derive(Drop)]
 pub struct Survey {
     alloc: Global,
-    claims: Requests,
-    releases: Requests,
-    rows: Rows,
+    by_name: BTreeMap<DomainName, Kept>,
+    tables: Tables,
+    /// Names that found no room.
+    others: BTreeSet<DomainName>,
 }
 
 impl Survey {
     /// Before the first packet. No memory is taken.
     pub fn new(alloc: Global) -> Survey
-        ensures { Sums result [] }
+        ensures sums { Sums result [] }
+        ensures bounded { IsBounded result }
     {
         Survey {
             alloc,
-            claims: Requests::new(alloc),
-            releases: Requests::new(alloc),
-            rows: Rows::new(alloc),
+            by_name: BTreeMap::new(alloc),
+            tables: Tables::new(alloc),
+            others: BTreeSet::new(alloc),
         }
     }
 
@@ -50,25 +83,69 @@ impl Survey {
     ///
     /// [`NoMemory`] where memory ran out; rows may then lack some of what the packet says.
     pub fn take(&mut self, heard: &Heard) -> Result<(), NoMemory>
-        ensures { OnOk result ((packets : List HeardValue) → Sums self.old packets →
+        ensures sums { OnOk result ((packets : List HeardValue) → Sums self.old packets →
             Sums self.new (packets ++ heard.now ∷ [])) }
+        ensures bounded { IsBounded self.old → IsBounded self.new }
     {
         let said = self.told(heard)?;
         self.hear_all(said.as_slice())
     }
 
-    /// The row of a name at an address, by all packets so far; none where they say nothing of it.
-    pub fn row(&self, place: &Place) -> Option<Row>
+    /// A row of the table of names, or of that of refusals where the key has a reason, by all
+    /// packets so far; none where they say nothing of it. It may lack some of what they say where
+    /// not [all](Survey::is_whole) of the name is kept.
+    pub fn row(&self, key: &Key) -> Option<Row>
         ensures { (packets : List HeardValue) → Sums self.now packets →
-            result ≡ row_at place.now (all_said packets) }
+            is_whole self.now key.now.name ≡ true → result
+            ≡ row_at (keys_of key.now.reason) key.now (words_of key.now.name packets) }
     {
-        self.rows.row(place)
+        match key.reason {
+            None => self.tables.names.row(key),
+            Some(_) => self.tables.refusals.row(key),
+        }
+    }
+
+    /// The rows of the table of names, in their order.
+    pub fn names(&self) -> Iter<'_, Key, Row>
+        ensures { (packets : List HeardValue) → Sums self.now packets → (key : KeyValue) →
+            is_whole self.now key.name ≡ true →
+            lookup (same_key key) result ≡ row_at name_key key (words_of key.name packets) }
+    {
+        self.tables.names.iter()
+    }
+
+    /// The rows of the table of refusals, in their order.
+    pub fn refusals(&self) -> Iter<'_, Key, Row>
+        ensures { (packets : List HeardValue) → Sums self.now packets → (key : KeyValue) →
+            is_whole self.now key.name ≡ true →
+            lookup (same_key key) result ≡ row_at refusal_key key (words_of key.name packets) }
+    {
+        self.tables.refusals.iter()
+    }
+
+    /// Whether all is kept that the packets say of a name. Of a name without rows it isn't known
+    /// once a name found no room.
+    pub fn is_whole(&self, name: &DomainName) -> bool
+        ensures { result ≡ is_whole self.now name.now }
+    {
+        match self.by_name.get(name) {
+            Some(kept) => kept.is_whole,
+            None => self.others.is_empty(),
+        }
+    }
+
+    /// How many names found no room, up to [`MAX_NAMES`]; where it is 0, none did.
+    pub fn left_out(&self) -> usize
+        ensures { result ≡ left_out self.now }
+    {
+        self.others.len()
     }
 
     /// Takes words that are said, in order.
     fn hear_all(&mut self, said: &[Said]) -> Result<(), NoMemory>
-        ensures { OnOk result ((before : List SaidValue) → SumsSaid self.old before →
-            SumsSaid self.new (before ++ said.now)) }
+        ensures heard { OnOk result ((name : List (List ℕ)) → is_whole self.new name ≡ true →
+            Hears self.old self.new name said.now) }
+        ensures bounded { IsBounded self.old → IsBounded self.new }
     {
         'words: for one in said {
             self.hear(one)?;
@@ -78,46 +155,57 @@ impl Survey {
 
     /// Takes a word that is said.
     fn hear(&mut self, said: &Said) -> Result<(), NoMemory>
-        ensures { OnOk result ((before : List SaidValue) → SumsSaid self.old before →
-            SumsSaid self.new (before ++ said.now ∷ [])) }
+        ensures heard { OnOk result ((name : List (List ℕ)) → is_whole self.new name ≡ true →
+            Hears self.old self.new name (said.now ∷ [])) }
+        ensures bounded { IsBounded self.old → IsBounded self.new }
     {
-        self.rows.hear(said)?;
-        self.claims.hear(Asking::Claim, said)?;
-        self.releases.hear(Asking::Release, said)
+        let name = &said.place.name;
+        if let Some(kept) = self.by_name.get_mut(name) {
+            let has_room = self.tables.hear(said)?;
+            return kept.hear(said, has_room);
+        }
+        if self.by_name.len() >= MAX_NAMES || self.others.len() > 0 {
+            return self.leave_out(name);
+        }
+        let mut kept = Kept {
+            is_whole: true,
+            requests: Vec::new(self.alloc),
+        };
+        let has_room = self.tables.hear(said)?;
+        kept.hear(said, has_room)?;
+        self.by_name.insert(name.copied(), kept)?;
+        Ok(())
+    }
+
+    /// Counts a name that finds no room.
+    fn leave_out(&mut self, name: &DomainName) -> Result<(), NoMemory>
+        ensures left { OnOk result (0 < left_out self.new) }
+        ensures kept { self.new ≡ record self.old { others = self.new.others } }
+        ensures bounded { IsBounded self.old → IsBounded self.new }
+    {
+        if self.others.len() < MAX_NAMES {
+            self.others.insert(name.copied())?;
+        }
+        Ok(())
     }
 
     /// What a packet says, after all that was said before.
     fn told(&self, heard: &Heard) -> Result<Vec<Said>, NoMemory>
-        ensures { IfOk result (λ said. (before : List SaidValue) → SumsSaid self.now before →
-            said.items ≡ told before heard.now) }
+        ensures { IfOk result (λ said. (name : List (List ℕ)) (before : List SaidValue) →
+            Keeps self.now name before →
+            filter (is_about name) said.items ≡ filter (is_about name) (told before heard.now)) }
     {
-        match answer_of(heard) {
-            Some(asking) => self.answering(asking, heard),
-            None => say(self.alloc, heard),
-        }
-    }
-
-    /// What a packet says that answers this.
-    fn answering(&self, asking: Asking, heard: &Heard) -> Result<Vec<Said>, NoMemory>
-        ensures { IfOk result (λ said. (before : List SaidValue) → SumsSaid self.now before →
-            said.items ≡ told_by (Some asking) heard.now.name before heard.now) }
-    {
+        let Some(asking) = answer_of(heard) else {
+            return say(self.alloc, heard);
+        };
         let Some(name) = &heard.name else {
             return say(self.alloc, heard);
         };
-        let found = self.latest(asking).answered(name, &heard.facts)?;
+        let Some(kept) = self.by_name.get(name) else {
+            return say(self.alloc, heard);
+        };
+        let found = answered(self.alloc, kept.requests.as_slice(), asking, &heard.facts)?;
         about(self.alloc, heard, name, found.as_slice())
-    }
-
-    /// The latest claims, or the latest releases.
-    fn latest(&self, asking: Asking) -> &Requests
-        ensures { (before : List SaidValue) → SumsSaid self.now before →
-            Remembers asking (requests_of result.now) before }
-    {
-        match asking {
-            Asking::Claim => &self.claims,
-            Asking::Release => &self.releases,
-        }
     }
 }
 

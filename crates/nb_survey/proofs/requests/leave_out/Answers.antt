@@ -1,7 +1,7 @@
 use Rattle.std.proofs.Common.{rules, not}
 use Rattle.std.proofs.lemmas.Fn.{filter_same}
-use Rattle.nb_survey.specs.Places.{same_address}
+use Rattle.nb_survey.specs.Requests.{replaces}
 use Rattle.nb_survey.proofs.requests.leave_out.Goals as goal
 
 pub returns : goal.returns
-returns c = filter_same _ (λ one. not (same_address one.address c.args.address)) _ (λ x b f' k. search rules) _ _ c.retain.ensures.filtered
+returns c = filter_same _ (λ one. not (replaces c.args.request.now one)) _ (λ x b f' k. search rules) _ _ c.retain.ensures.filtered

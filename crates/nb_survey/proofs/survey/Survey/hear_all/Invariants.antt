@@ -1,7 +1,9 @@
-use Rattle.std.proofs.Common.{List, ◌++◌, take}
-use Rattle.nb_survey.specs.declared.heard.Said.{Said}
-use Rattle.nb_survey.specs.Sums.{SumsSaid}
+use Rattle.std.proofs.Common.{◌≡◌, ℕ, List, true, take}
+use Rattle.nb_survey.specs.Code.Kept.{Hears, is_whole}
+use Rattle.nb_survey.specs.Sums.{IsBounded}
 use Rattle.nb_survey.proofs.survey.Survey.hear_all.Given as goal
 
 abbrev pub invariant-words : goal.invariant-words
-invariant-words l = (before : List Said) → SumsSaid l.fn.self before → SumsSaid l.self (before ++ take l.one-index l.said)
+invariant-words l =
+    ((name : List (List ℕ)) → is_whole l.self name ≡ true → Hears l.fn.self l.self name (take l.one-index l.said))
+    × (IsBounded l.fn.self → IsBounded l.self)

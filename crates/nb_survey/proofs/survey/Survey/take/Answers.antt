@@ -1,16 +1,19 @@
-use Rattle.std.proofs.Common.{◌≡◌, ◌∙◌, sym, ap, subst, ◌++◌}
+use Rattle.std.proofs.Common.{◌≡◌, ◌∙◌, ℕ, List, ◌∷◌, [], sym, ap, subst, ◌++◌, filter}
 use Rattle.std.proofs.lemmas.Result.{on_ok_weaker}
-use Rattle.std.proofs.Common.{List, ◌∷◌, []}
 use Rattle.std.proofs.lemmas.List.Sums.{fold-append}
-use Rattle.nb_survey.specs.Sums.{SumsSaid}
-use Rattle.nb_survey.specs.Telling.{all_said, told}
+use Rattle.nb_survey.specs.Code.Kept.{Keeps}
+use Rattle.nb_survey.specs.Telling.{is_about, told, words_of}
 use Rattle.nb_survey.specs.declared.heard.Heard.{Heard}
 use Rattle.nb_survey.proofs.survey.Survey.take.Goals as goal
 
-said-more : (packets : List Heard) (p : Heard) → all_said (packets ++ p ∷ []) ≡ all_said packets ++ told (all_said packets) p
-said-more packets p = fold-append (λ before heard. before ++ told before heard) [] packets (p ∷ [])
+words-more : (name : List (List ℕ)) (packets : List Heard) (p : Heard)
+    → words_of name (packets ++ p ∷ []) ≡ words_of name packets ++ filter (is_about name) (told (words_of name packets) p)
+words-more name packets p = fold-append (λ before heard. before ++ filter (is_about name) (told before heard)) [] packets (p ∷ [])
 
-pub returns : goal.returns
-returns c = on_ok_weaker c.hear_all.result (λ hears packets h.
-    let e : c.as_slice.result.now ≡ told (all_said packets) c.args.heard.now = c.as_slice.ensures.value ∙ c.in_ok-said.ensures (all_said packets) h in
-    subst (SumsSaid c.hear_all.new.self) (ap (λ xs. all_said packets ++ xs) e ∙ sym (said-more packets c.args.heard.now)) (hears (all_said packets) h)) c.hear_all.ensures
+pub returns-clause-sums : goal.returns-clause-sums
+returns-clause-sums c = on_ok_weaker c.hear_all.result (λ hears packets sums name whole.
+    let before = words_of name packets in
+    let h = hears name whole in
+    let k = sums name h.whole in
+    let e = ap (filter (is_about name)) c.as_slice.ensures.value ∙ c.in_ok-said.ensures name before k in
+    subst (Keeps c.hear_all.new.self name) (ap (λ xs. before ++ xs) e ∙ sym (words-more name packets c.args.heard.now)) (h.keeps before k)) c.hear_all.ensures.heard

@@ -27,13 +27,15 @@ abbrev pub placed_text : FileFault → ℕ → ℕ → List ℕ
 placed_text why frames place =
     fault_words why ++ (codes " at byte " ++ (decimal place ++ (codes ", after frame " ++ decimal frames)))
 
--- an input that has no byte, and what to do; one that gzip made; a file of another form
+-- why an input that has no byte isn't read, and what to do
 abbrev pub empty_form : List ℕ
 empty_form = codes "it is empty, and a capture file has a header: capture anew"
 
+-- why an input that gzip made isn't read, and what reads it
 abbrev pub gzip_form : List ℕ
 gzip_form = codes "it is compressed by gzip: zcat FILE | nbt-look - reads it"
 
+-- why a file of another form isn't read, and what to give
 abbrev pub other_form : List ℕ
 other_form = codes "neither pcap nor pcapng: give what tcpdump -w or Wireshark wrote; nbt show reads captures as text"
 

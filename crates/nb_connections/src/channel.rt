@@ -72,8 +72,8 @@ impl Channel {
     /// Whether something is read where a segment with this number comes.
     fn reads_at(&mut self, alloc: Global, number: u32) -> bool
         ensures first { self.new.first ≡ self.old.first }
-        ensures reads { (state : State) → Keeps self.old state → MatchOption (reading_at state number)
-            ((result ≡ false) × (self.new ≡ self.old))
+        ensures reads { (state : State) → Keeps self.old state →
+            MatchOption (reading_at state number) ((result ≡ false) × (self.new ≡ self.old))
             (λ reading. IsTrue result × KeepsReading self.new reading) }
         ensures kept { kept_of self.new ≤ kept_of self.old }
         ensures open { IsTrue result → self.new.closed ≡ None }
@@ -136,8 +136,8 @@ impl Channel {
         number != self.first
     }
 
-    /// Takes a segment. The packets that it completes are put in `ready`, one after another. No more
-    /// is kept then than there is room for.
+    /// Takes a segment. The packets that it completes are put in `ready`, one after another. No
+    /// more is kept then than there is room for.
     ///
     /// # Errors
     ///
@@ -284,8 +284,8 @@ fn ends_at(handed: u64, place: u64, piece: &Piece<'_>) -> bool
     handed - place == piece.bytes.len() as u64
 }
 
-/// What ends the reading of a direction of which this rest is held, of so many bytes: that bytes are
-/// missing after those of this segment, or that no room is left.
+/// What ends the reading of a direction of which this rest is held, of so many bytes: that bytes
+/// are missing after those of this segment, or that no room is left.
 fn closed_by(
     rest: Rest,
     held: usize,

@@ -122,7 +122,8 @@ impl Connections {
         ensures none { OnErr result (self.new.ready.items ≡ []) }
         ensures kept { self.new.kept ≡ self.old.kept }
         ensures sum { OnOk result (get ends_cmp self.old.channels ends ≡ None →
-            kept_in self.new.channels.entries ≡ kept_in self.old.channels.entries + kept_of channel) }
+            kept_in self.new.channels.entries
+            ≡ kept_in self.old.channels.entries + kept_of channel) }
         ensures same { OnErr result (self.new.channels.entries ≡ self.old.channels.entries) }
     {
         match self.channels.insert(ends, channel) {
@@ -136,7 +137,8 @@ impl Connections {
 
     /// Leaves out the bytes of a segment.
     fn leave_out(&mut self, reason: Reason, bytes: &[u8]) -> Taken
-        ensures left { result.left_out ≡ Some (record { reason = reason; count = length bytes.now }) }
+        ensures left { result.left_out
+            ≡ Some (record { reason = reason; count = length bytes.now }) }
         ensures channels { self.new.channels ≡ self.old.channels }
         ensures ready { self.new.ready.items ≡ [] }
         ensures kept { self.new.kept ≡ self.old.kept }

@@ -82,8 +82,8 @@ pub fn is_end(context: &Context, rest: &[u8]) -> bool
     }
 }
 
-/// Takes in a part of a file, which is as long as it says, and answers where a frame stands in it. At
-/// a fault the context is as it was.
+/// Takes in a part of a file, which is as long as it says, and answers where a frame stands in it.
+/// At a fault the context is as it was.
 pub fn take_in(alloc: Global, context: &mut Context, part: &[u8]) -> Result<Option<Head>, FileFault>
     requires { size_of context.old part.now ≡ Ok (length part.now) }
     ensures { Gives (content context.old part.now) result context.old context.new }

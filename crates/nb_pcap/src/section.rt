@@ -101,8 +101,8 @@ fn timed_head(section: &Section, which: usize, block: &[u8]) -> Result<Head, Fil
     }
 }
 
-/// Takes in a whole block, which is as long as it says, and answers where a frame stands in it. At a
-/// fault the section is as it was.
+/// Takes in a whole block, which is as long as it says, and answers where a frame stands in it. At
+/// a fault the section is as it was.
 #[tactic(auto, using(crate::proofs::SizeLemmas::whole_block))]
 pub fn take_block(
     alloc: Global,

@@ -94,8 +94,8 @@ fn as_objects(wanted: Filter, is_quiet: bool) -> Asked
     }
 }
 
-/// How lines are shown where `--color` has this word, on an output that is plain, or one that isn't;
-/// none where it is no such word.
+/// How lines are shown where `--color` has this word, on an output that is plain, or one that
+/// isn't; none where it is no such word.
 fn form_of(word: &str, is_plain: bool) -> Option<Form>
     ensures { result ≡ form_of word.now is_plain }
 {

@@ -15,8 +15,8 @@ const YELLOW: &str = "\x1b[33m";
 /// The same of one that says that a name is in conflict.
 const MAGENTA: &str = "\x1b[35m";
 
-/// What stands before the line of a packet that counts so, with this payload that came to this port:
-/// a colour, or nothing.
+/// What stands before the line of a packet that counts so, with this payload that came to this
+/// port: a colour, or nothing.
 pub fn colour_of_packet(outcome: Outcome, port: u16, payload: &[u8]) -> &'static str
     ensures { IsColourOf outcome payload.now port result.now }
 {

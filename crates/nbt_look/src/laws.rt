@@ -3,8 +3,8 @@ ghost use Rattle.std.specs.Prelude.{◌≡◌, ◌≢◌, ◌++◌, [], ℕ, Lis
 ghost use Rattle.nb_pcap.specs.Frame.{FrameValue};
 ghost use Rattle.nbt_look.specs.Merging.{IsAscending, Merges, comes_first, of_place};
 
-/// In a merge stand the frames of each file in their order, each once, and no others, so of one file
-/// all its frames; where the times of no file decrease, nor do those of the merge.
+/// In a merge stand the frames of each file in their order, each once, and no others, so of one
+/// file all its frames; where the times of no file decrease, nor do those of the merge.
 pub fn merges()
     ensures each { (files left : ℕ → List FrameValue) (frames : List FrameValue)
         → Merges files frames left → (places : List ℕ) × (length places ≡ length frames)

@@ -82,8 +82,8 @@ fn unread_signatures(alloc: Global, count: usize) -> Result<Vec<Cell<Signature>>
     Ok(signatures)
 }
 
-/// Opens these files, whose signatures these cells keep, and before whose reads the output in a cell
-/// is flushed; where one can't be opened, says why, and answers the exit status.
+/// Opens these files, whose signatures these cells keep, and before whose reads the output in a
+/// cell is flushed; where one can't be opened, says why, and answers the exit status.
 fn sources_of<'a, W: Write>(
     rt: &HostRuntime,
     titles: &[&str],

@@ -83,10 +83,10 @@ fn print_last<W: Write>(
 /// packet of ports 137 and 138 that is wanted.
 ///
 /// Frames stand in the order of their times. One without a time comes first; of two with the same
-/// time that of the file which was given later, as mergecap has them. Each file keeps its own order.
-/// Of each file one frame is read ahead. Once there are as many lines as are wanted, no further
-/// frame is read. Each line is written before the next frame is read. The writer isn't flushed. What
-/// is held at once doesn't depend on how long the files are.
+/// time that of the file which was given later, as mergecap has them. Each file keeps its own
+/// order. Of each file one frame is read ahead. Once there are as many lines as are wanted, no
+/// further frame is read. Each line is written before the next frame is read. The writer isn't
+/// flushed. What is held at once doesn't depend on how long the files are.
 ///
 /// A file that can't be read further ends there, and its source says why; the others go on. The
 /// frames before it are listed and counted.

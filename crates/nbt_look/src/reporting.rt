@@ -65,8 +65,8 @@ fn push_stopped(
     Ok(())
 }
 
-/// Adds the line about a file of this title and sort, which has this to give, where it isn't read to
-/// its end.
+/// Adds the line about a file of this title and sort, which has this to give, where it isn't read
+/// to its end.
 pub fn push_fault(
     title: &str,
     sort: Sort,

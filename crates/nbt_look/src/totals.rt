@@ -86,8 +86,8 @@ fn push_shown_count(all: bool, shown: u64, text: &mut String) -> Result<(), NoMe
     Ok(())
 }
 
-/// Adds how many frames have no packet, where others have and all are wanted, or that none is of the
-/// ports.
+/// Adds how many frames have no packet, where others have and all are wanted, or that none is of
+/// the ports.
 fn push_without(all: bool, counts: &Counts, text: &mut String) -> Result<(), NoMemory>
     ensures { OnOk result
         (string_bytes text.new ≡ string_bytes text.old ++ without_text all counts.now) }

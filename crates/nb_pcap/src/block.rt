@@ -82,8 +82,8 @@ pub fn block_size(order: Order, bytes: &[u8]) -> Result<usize, FileFault>
     let front = &bytes[..BLOCK_LENGTH];
     let kind = kind_in(order, front);
     match block_order(order, front) {
-        Some(own) => {
-            let size = number_32(own, front, 4) as usize;
+        Some(order) => {
+            let size = number_32(order, front, 4) as usize;
             if size < kind.least_length() || size % 4 != 0 {
                 return Err(FileFault::BadBlock);
             }

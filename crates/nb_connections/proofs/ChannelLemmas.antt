@@ -1,39 +1,46 @@
 -- What a channel keeps of its direction, after one more segment.
-use Rattle.std.proofs.Common.{ℕ, ◌≡◌, ◌+◌, ◌-◌, ◌*◌, ◌/◌, ◌%◌, ◌^◌, ◌≤◌, Bool, true, false, IsTrue, List, [], ◌∷◌, ◌++◌, inl, inr, length, take, drop, refl, sym, ap, subst, ◌∙◌, arith, append_assoc, Option, Some, None, MatchOption, cond, nat_eq}
+use Rattle.std.proofs.Common.{ℕ, ◌≡◌, ◌+◌, ◌-◌, ◌*◌, ◌/◌, ◌%◌, ◌^◌, ◌≤◌, ◌<◌, ◌⊎◌, Bool, true, false, IsTrue, List, [], ◌∷◌, ◌++◌, inl, inr, length, take, drop, refl, sym, ap, subst, ◌∙◌, arith, append_assoc, Option, Some, None, MatchOption, Result, Ok, Err, cond, nat_eq, nat_lt}
 use Rattle.std.proofs.Math.Nat.{mod-add-div', add-mul-mod_self_right}
+use Rattle.std.proofs.lemmas.Bool.Decides.{nat_tests}
 use Rattle.std.proofs.lemmas.List.{take-append-drop, take_rest}
+use Rattle.nb_streams.specs.declared.bytes.NoMemory.{NoMemory}
 use Rattle.nb_session.specs.Cutting.{ArePackets, BeginsWithNone}
 use Rattle.nb_session.specs.Packet.{Packet}
-use Rattle.nb_session.specs.declared.limits.TheConstants.{HEADER_LENGTH}
+use Rattle.nb_session.specs.declared.limits.TheConstants.{HEADER_LENGTH, MAX_PACKET}
 use Rattle.nb_tcp.specs.Order.{StandsAt, placed}
-use Rattle.nb_tcp.specs.Kept.{Orders}
-use Rattle.nb_tcp.specs.Takes.{Takes, segment_of}
-use Rattle.nb_tcp.specs.declared.limits.TheConstants.{START}
-use Rattle.nb_tcp.specs.declared.taken.Taken.{Taken}
+use Rattle.nb_tcp.specs.Kept.{Kept, Orders}
+use Rattle.nb_tcp.specs.Takes.{IsFull, Takes, grown, segment_of}
+use Rattle.nb_tcp.specs.declared.limits.TheConstants.{LAST, START}
+use Rattle.nb_tcp.specs.declared.taken.Taken.{Taken as TcpTaken}
 use Rattle.nb_connections.specs.declared.channel.Channel.{Channel}
-use Rattle.nb_connections.specs.declared.channel.Closed.{Closed}
-use Rattle.nb_connections.specs.declared.channel.Closed.TheVariants.{Gap, BadHeader}
+use Rattle.nb_connections.specs.declared.closing.Closed.{Closed}
+use Rattle.nb_connections.specs.declared.closing.Closed.TheVariants.{Gap, BadHeader}
 use Rattle.nb_connections.specs.declared.cutting.Rest.{Rest}
-use Rattle.nb_connections.specs.Reading.{Reading, Seen, HandsOn, started, with_segment}
-use Rattle.nb_connections.specs.Course.{Course, State, Reads, AfterGap, AfterBadHeader, reading_at, read, left_out, given_up}
-use Rattle.nb_connections.specs.Channels.{Follows, IsGrown, Keeps, KeepsReading, ReadsTo}
+use Rattle.nb_connections.specs.declared.cutting.Rest.TheVariants.{Lacks}
+use Rattle.nb_connections.specs.declared.taken.LeftOut.{LeftOut}
+use Rattle.nb_connections.specs.declared.taken.Reason.TheVariants as why
+use Rattle.nb_connections.specs.declared.taken.Taken.{Taken}
+use Rattle.nb_connections.specs.Reading.{Answer, ComesAt, HandsOn, Part, Reading, Seen, started, with_segment}
+use Rattle.nb_connections.specs.Course.{Course, Goes, IsMissing, State, Reads, AfterGap, AfterBadHeader, given_up, lost, passed, read, reading_at, reads_on, reason_in}
+use Rattle.nb_connections.specs.Channels.{IsAnswered, IsGrown, Keeps, KeepsReading, NoRoom, kept_of, reason_of, with_one}
 use Rattle.nb_connections.specs.Rests.{Closes, StandsAfter}
-use Rattle.nb_connections.proofs.CutLemmas.{joined}
+use Rattle.nb_connections.proofs.CutLemmas.{joined, within_packet}
 
--- what reads_at answers, where the state is this
-abbrev pub Answers : Channel → Channel → Bool → Option Reading → Type 0
-Answers old new result reading =
-    MatchOption reading ((result ≡ false) × (new ≡ old)) (λ r. IsTrue result × KeepsReading new r)
+-- what closed_at answers, where the state is this
+abbrev pub Opens : Channel → Channel → Option Closed → Option Reading → Type 0
+Opens old new result reading =
+    MatchOption reading ((closed : Closed) × (result ≡ Some closed) × (old.closed ≡ Some closed) × (new ≡ old))
+    (λ r. (result ≡ None) × KeepsReading new r)
 
 same_is : (a b : ℕ) → a ≡ b → nat_eq a b ≡ true
 same_is a b e = grind (arith, e)
 
 -- ---- reading begins again where the packet ends that was awaited
-restarted : (old new : Channel) (number : ℕ) (b : Bool) → b ≡ true → KeepsReading new (started number) → Answers old new true (cond b (Some (started number)) None)
-restarted old new number b e keeps = subst (λ (x : Bool). Answers old new true (cond x (Some (started number)) None)) (sym e) (refl, keeps)
+restarted : (old new : Channel) (number : ℕ) (b : Bool) → b ≡ true → KeepsReading new (started number) → Opens old new None (cond b (Some (started number)) None)
+restarted old new number b e keeps = subst (λ (x : Bool). Opens old new None (cond x (Some (started number)) None)) (sym e) (refl, keeps)
 
 pub restarts : (old new : Channel) (number : ℕ) → old.closed ≡ Some (Gap (Some number)) → KeepsReading new (started number)
-    → (state : State) → Keeps old state → Answers old new true (reading_at state number)
+    → (state : State) → Keeps old state → Opens old new None (reading_at state number)
 restarts old new number was keeps (Reads r) kept = let is = kept.is_open in absurd (cc)
 restarts old new number was keeps (AfterGap None) kept = absurd (cc)
 restarts old new number was keeps (AfterGap (Some other)) kept =
@@ -42,68 +49,107 @@ restarts old new number was keeps (AfterGap (Some other)) kept =
 restarts old new number was keeps AfterBadHeader kept = absurd (cc)
 
 -- ---- a segment that is left out, and one that is read
-moved : (old new : Channel) (seen : List Seen) → new ≡ old → Follows old seen → Follows new seen
-moved old new seen e f = subst (λ (ch : Channel). Follows ch seen) (sym e) f
+reason_same : (channel : Channel) (closed : Closed) (state : State) (number : ℕ) → Keeps channel state → channel.closed ≡ Some closed
+    → reading_at state number ≡ None → reason_of closed ≡ reason_in state
+reason_same channel closed (Reads r) number keeps e none = absurd (cc)
+reason_same channel closed (AfterGap end) number keeps e none = let same : closed ≡ Gap end = cc in ap reason_of same
+reason_same channel closed AfterBadHeader number keeps e none = let same : closed ≡ BadHeader = cc in ap reason_of same
 
-left_by : (old new : Channel) (seen : List Seen) (one : Seen) (result : Bool) (state : State) (reading : Option Reading) → reading_at state one.number ≡ reading
-    → result ≡ false → Answers old new result reading → one.packets ≡ [] → Course old.first seen state → Keeps old state → Follows new (seen ++ one ∷ [])
-left_by old new seen one result state None at was_no answers empty course keeps =
-    moved old new (seen ++ one ∷ []) answers.1 (state, left_out seen state one course at empty, keeps)
-left_by old new seen one result state (Some r) at was_no answers empty course keeps = let was_yes = answers.0 in absurd (cc)
+-- where nothing is read
+abbrev pub passed_answer : Closed → Part → Answer
+passed_answer closed part = record { packets = []; left_out = lost (reason_of closed) (length part.bytes); differs = false; fits = true }
 
-pub left : (old new : Channel) (seen : List Seen) (one : Seen) (result : Bool) → result ≡ false → one.packets ≡ []
-    → ((state : State) → Keeps old state → Answers old new result (reading_at state one.number)) → Follows old seen → Follows new (seen ++ one ∷ [])
-left old new seen one result was_no empty answers f = left_by old new seen one result f.0 _ refl was_no (answers f.0 f.2) empty f.1 f.2
+passes_by : (old new : Channel) (direction : ℕ × List Seen) (part : Part) (closed : Closed) (state : State) (reading : Option Reading)
+    → reading_at state part.number ≡ reading → Opens old new (Some closed) reading → old.first ≡ direction.0 → Course direction.0 direction.1 state
+    → Keeps old state → IsGrown new (with_one direction (record { part = part; answer = passed_answer closed part }))
+passes_by old new direction part closed state None at opens first course keeps =
+    let reason = reason_same old closed state part.number keeps (opens.2 ∙ sym opens.1) at in
+    let one : Seen = record { part = part; answer = passed_answer closed part } in
+    subst (λ (ch : Channel). IsGrown ch (with_one direction one)) (sym opens.3)
+    (first, state, passed direction.1 state one course at (refl, refl, ap (λ r. lost r (length part.bytes)) reason), keeps)
+passes_by old new direction part closed state (Some r) at opens first course keeps = let none = opens.0 in absurd (cc)
 
--- a segment with these packets
-abbrev pub with_packets : Seen → List Packet → Seen
-with_packets one packets = record one { packets = packets }
+pub passes : (old new : Channel) (direction : ℕ × List Seen) (part : Part) (closed : Closed)
+    → ((state : State) → Keeps old state → Opens old new (Some closed) (reading_at state part.number)) → IsGrown old direction
+    → IsGrown new (with_one direction (record { part = part; answer = passed_answer closed part }))
+passes old new direction part closed opens g = passes_by old new direction part closed g.1 _ refl (opens g.1 g.3) g.0 g.2 g.3
+
+room_more : (kept more room count : ℕ) → kept ≤ more → NoRoom kept room count → NoRoom more room count
+room_more kept more room count le (inl h) = inl (omega (arith, le, h))
+room_more kept more room count le (inr h) = inr (omega (arith, le, h))
+
+pub answered_more : (kept more room count : ℕ) (answer : Answer) (r : Result Taken NoMemory) → kept ≤ more → IsAnswered kept room count answer r
+    → IsAnswered more room count answer r
+answered_more kept more room count answer (Ok taken) le a = (a.0, a.1, λ e. room_more kept more room count le (a.2 e))
+answered_more kept more room count answer (Err e) le a = a
 
 -- what a call of read answers
-abbrev pub Answered : Channel → Channel → Seen → List ℕ → Type 0
-Answered mid new one ready =
-    (old : Reading) → KeepsReading mid old → (packets : List Packet) × ArePackets packets ready × ReadsTo old (with_packets one packets) new
+abbrev pub Answered : Channel → Channel → Part → List ℕ → ℕ → ℕ → Result Taken NoMemory → Type 0
+Answered mid new part ready kept room result = (old : Reading) → KeepsReading mid old → (answer : Answer) × ArePackets answer.packets ready
+    × IsAnswered kept room (length part.bytes) answer result × (after : State) × Goes old (record { part = part; answer = answer }) after × Keeps new after
 
-reads_to : (new : Channel) (seen : List Seen) (one : Seen) (state : State) (old : Reading) → reading_at state one.number ≡ Some old → Course new.first seen state
-    → ReadsTo old one new → Follows new (seen ++ one ∷ [])
-reads_to new seen one state old at course (inl x) = (x.1, read seen state x.1 one old x.0 course at x.2 x.3, x.4)
-reads_to new seen one state old at course (inr x) = (AfterGap None, given_up seen state one course x.0, x.1)
+follows_by : (old mid new : Channel) (direction : ℕ × List Seen) (part : Part) (ready : List ℕ) (kept more room : ℕ) (result : Result Taken NoMemory)
+    (state : State) (reading : Option Reading) → reading_at state part.number ≡ reading → kept ≤ more → Opens old mid None reading
+    → Answered mid new part ready kept room result → new.first ≡ direction.0 → Course direction.0 direction.1 state
+    → (answer : Answer) × ArePackets answer.packets ready × IsAnswered more room (length part.bytes) answer result
+    × IsGrown new (with_one direction (record { part = part; answer = answer }))
+follows_by old mid new direction part ready kept more room result state None at le opens answered first course = let some = opens.1 in absurd (cc)
+follows_by old mid new direction part ready kept more room result state (Some r) at le opens answered first course =
+    let got = answered r opens.1 in (
+      got.0,
+      got.1,
+      answered_more kept more room (length part.bytes) got.0 result le got.2,
+      (first, got.3, read direction.1 state got.3 (record { part = part; answer = got.0 }) r course at got.4, got.5),
+    )
 
-follows_by : (old mid new : Channel) (seen : List Seen) (one : Seen) (ready : List ℕ) (result : Bool) (state : State) (reading : Option Reading)
-    → reading_at state one.number ≡ reading → IsTrue result → Answers old mid result reading → Answered mid new one ready → Course new.first seen state
-    → (packets : List Packet) × ArePackets packets ready × Follows new (seen ++ with_packets one packets ∷ [])
-follows_by old mid new seen one ready result state None at was_yes answers answered course = let was_no = answers.0 in absurd (cc)
-follows_by old mid new seen one ready result state (Some r) at was_yes answers answered course =
-    let got = answered r answers.1 in
-    (got.0, got.1, reads_to new seen (with_packets one got.0) state r at course got.2)
-
-pub follows_on : (old mid new : Channel) (seen : List Seen) (one : Seen) (ready : List ℕ) (result : Bool) → IsTrue result → new.first ≡ old.first
-    → ((state : State) → Keeps old state → Answers old mid result (reading_at state one.number)) → Answered mid new one ready → Follows old seen
-    → (packets : List Packet) × ArePackets packets ready × Follows new (seen ++ with_packets one packets ∷ [])
-follows_on old mid new seen one ready result was_yes first answers answered f =
-    follows_by old mid new seen one ready result f.0 _ refl was_yes (answers f.0 f.2) answered (subst (λ (n : ℕ). Course n seen f.0) (sym first) f.1)
+pub follows_on : (old mid new : Channel) (direction : ℕ × List Seen) (part : Part) (ready : List ℕ) (kept more room : ℕ) (result : Result Taken NoMemory)
+    → kept ≤ more → new.first ≡ old.first → ((state : State) → Keeps old state → Opens old mid None (reading_at state part.number))
+    → Answered mid new part ready kept room result → IsGrown old direction
+    → (answer : Answer) × ArePackets answer.packets ready × IsAnswered more room (length part.bytes) answer result
+    × IsGrown new (with_one direction (record { part = part; answer = answer }))
+follows_on old mid new direction part ready kept more room result le first opens answered g =
+    follows_by old mid new direction part ready kept more room result g.1 _ refl le (opens g.1 g.3) answered (first ∙ g.0) g.2
 
 -- ---- a segment is taken, whole
-pub took : (channel new : Channel) (old : Reading) (one : Seen) (taken : Taken) → KeepsReading channel old
-    → Takes channel.direction one.number one.bytes one.numbers new.direction taken → taken.refusal ≡ None → new.closed ≡ channel.closed
-    → new.direction.first ≡ channel.direction.first → new.held ≡ channel.held → KeepsReading new (with_segment old taken.place one)
-took channel new old one taken keeps takes whole closed first held =
+pub took : (channel new : Channel) (old : Reading) (part : Part) (taken : TcpTaken) → KeepsReading channel old
+    → Takes channel.direction part.number part.bytes part.numbers new.direction taken → taken.refusal ≡ None → new.closed ≡ channel.closed
+    → new.direction.first ≡ channel.direction.first → new.held ≡ channel.held → KeepsReading new (with_segment old taken.place part)
+took channel new old part taken keeps takes whole closed first held =
     let count = takes.whole whole in
     record {
       is_open = closed ∙ keeps.is_open;
       first = first ∙ keeps.first;
-      orders = subst (λ (n : ℕ). Orders START new.direction (old.segments ++ segment_of taken.place one.bytes one.numbers n ∷ []) old.out) count (takes.orders START old.segments old.out keeps.orders);
+      orders = subst (λ (n : ℕ). Orders START new.direction (old.segments ++ segment_of taken.place part.bytes part.numbers n ∷ []) old.out) count (takes.orders START old.segments old.out keeps.orders);
       held = ap (λ v. v.items) held ∙ keeps.held;
       front = keeps.front;
       there = keeps.there;
       exact = keeps.exact;
     }
 
-pub stood : (channel : Channel) (old : Reading) (number place : ℕ) → KeepsReading channel old → StandsAt channel.direction.first channel.direction.handed number place
-    → StandsAt old.first (START + length old.out) number place
-stood channel old number place keeps stands =
-    subst (λ (n : ℕ). StandsAt old.first n number place) keeps.orders.reached
-    (subst (λ (n : ℕ). StandsAt n channel.direction.handed number place) keeps.first stands)
+pub comes : (channel : Channel) (old : Reading) (part : Part) (new : Kept) (taken : TcpTaken) → KeepsReading channel old
+    → Takes channel.direction part.number part.bytes part.numbers new taken → channel.direction.known ≤ channel.direction.handed
+    → ComesAt old taken.place part taken.differs
+comes channel old part new taken keeps takes known = record {
+  at = subst (λ (n : ℕ). StandsAt old.first n part.number taken.place) keeps.orders.reached
+      (subst (λ (n : ℕ). StandsAt n channel.direction.handed part.number taken.place) keeps.first takes.stands);
+  told = λ t. (let d = takes.differs START old.segments old.out keeps.orders t in (d.0, omega arith, d.2));
+  same = λ f d. (let low = d.1 in let reached = keeps.orders.reached in
+      takes.same START old.segments old.out keeps.orders f (d.0, omega (arith, low, known, reached), d.2));
+}
+
+-- ---- a segment isn't taken
+abbrev pub gap_answer : Reading → Part → Bool → Bool → Answer
+gap_answer old part differs fits = record { packets = []; left_out = lost why.Gap (length old.held + length part.bytes); differs = differs; fits = fits }
+
+pub gives_up : (final : Channel) (old : Reading) (part : Part) (place : ℕ) (differs fits : Bool) → ComesAt old place part differs
+    → (fits ≡ false) ⊎ (LAST < START + length old.out + 2 ^ 31 + length part.bytes) → final.closed ≡ Some (Gap None)
+    → (after : State) × Goes old (record { part = part; answer = gap_answer old part differs fits }) after × Keeps final after
+gives_up final old part place differs fits at none closed = (AfterGap None, given_up place at none refl refl, closed)
+
+pub refuses : (channel : Channel) (old : Reading) (room count : ℕ) → KeepsReading channel old → IsFull channel.direction count
+    → (fits : Bool) × (fits ≡ false → NoRoom (kept_of channel) room count) × ((fits ≡ false) ⊎ (LAST < START + length old.out + 2 ^ 31 + count))
+refuses channel old room count keeps (inl h) = (true, λ e. absurd (cc), inr (let reached = keeps.orders.reached in omega (arith, h, reached)))
+refuses channel old room count keeps (inr h) = (false, λ _. inl (omega (arith, h)), inl refl)
 
 -- ---- what is in order is handed on
 pub handed_on : (channel final : Channel) (old : Reading) (handed row : List ℕ) (end : ℕ) (packets : List Packet) → KeepsReading channel old
@@ -155,28 +201,74 @@ abbrev pub IsClosed : Channel → Option Closed → Channel → Type 0
 IsClosed channel None final = final ≡ channel
 IsClosed channel (Some closed) final = final.closed ≡ Some closed
 
-pub ends : (channel final : Channel) (old new : Reading) (one : Seen) (place : ℕ) (rest : Rest) (count : ℕ) (is_missing is_full : Bool) (closed : Option Closed) → count ≡ length channel.held.items
-    → StandsAt old.first (START + length old.out) one.number place → HandsOn (with_segment old place one) one.packets new → KeepsReading channel new
-    → StandsAfter new.held rest → Closes rest count one.number one.bytes is_missing is_full closed
-    → (IsTrue is_missing → channel.direction.handed ≡ place + length one.bytes) → IsClosed channel closed final → ReadsTo old one final
-ends channel final old new one place rest count is_missing is_full None long stands hands keeps after closes missing is =
-    inl (new, Reads new, record { place = place; stands = stands; handed = hands }, (closes.0, refl, subst (StandsAfter new.held) closes.1 after), subst (λ (ch : Channel). KeepsReading ch new) (sym is) keeps)
-ends channel final old new one place rest count is_missing is_full (Some BadHeader) long stands hands keeps after closes missing is =
-    inl (new, AfterBadHeader, record { place = place; stands = stands; handed = hands }, (closes.0, subst (StandsAfter new.held) closes.1 after), is)
-ends channel final old new one place rest count is_missing is_full (Some (Gap None)) long stands hands keeps after closes missing is =
-    inl (new, AfterGap None, record { place = place; stands = stands; handed = hands }, tt, is)
-ends channel final old new one place rest count is_missing is_full (Some (Gap (Some end))) long stands hands keeps after closes missing is =
+-- what is left out then, of so many bytes
+abbrev pub left_by : Option Closed → ℕ → Option LeftOut
+left_by None count = None
+left_by (Some closed) count = lost (reason_of closed) count
+
+-- what follows a segment that is read, with these packets
+abbrev pub EndsIn : Channel → Reading → Part → List Packet → Bool → ℕ → Bool → Option Closed → Type 0
+EndsIn final old part packets differs count is_full closed = (fits : Bool) × (fits ≡ false → IsTrue is_full × (count ≤ MAX_PACKET)) × (after : State)
+    × Goes old (record { part = part; answer = record { packets = packets; left_out = left_by closed count; differs = differs; fits = fits } }) after
+    × Keeps final after
+
+ends_full : (final : Channel) (old new : Reading) (part : Part) (packets : List Packet) (differs : Bool) (place count needed : ℕ) (is_missing is_full : Bool)
+    → ComesAt old place part differs → HandsOn (with_segment old place part) packets new → StandsAfter new.held (Lacks needed)
+    → (IsTrue is_missing → IsMissing new place part) → count ≡ length new.held → final.closed ≡ Some (Gap None)
+    → (IsTrue is_missing × ((count < HEADER_LENGTH) ⊎ (MAX_PACKET < needed))) ⊎ IsTrue is_full
+    → EndsIn final old part packets differs count is_full (Some (Gap None))
+ends_full final old new part packets differs place count needed is_missing is_full at hands after missing long is (inl (m, inl short)) = (
+  true,
+  λ e. absurd (cc),
+  AfterGap None,
+  reads_on place new (AfterGap None) at hands
+      (inl (missing m, subst (λ (n : ℕ). n < HEADER_LENGTH) long short), ap (lost why.Gap) long),
+  is,
+)
+ends_full final old new part packets differs place count needed is_missing is_full at hands after missing long is (inl (m, inr large)) =
+    let most = within_packet new.held needed after in absurd (omega (arith, most, large))
+ends_full final old new part packets differs place count needed is_missing is_full at hands after missing long is (inr full) =
+    let most = within_packet new.held needed after in
+    (false, λ _. (full, omega (arith, most, long)), AfterGap None, reads_on place new (AfterGap None) at hands (inr refl, ap (lost why.Gap) long), is)
+
+pub ends : (channel final : Channel) (old new : Reading) (part : Part) (packets : List Packet) (differs : Bool) (place : ℕ) (rest : Rest) (count : ℕ)
+    (is_missing is_full : Bool) (closed : Option Closed) → count ≡ length channel.held.items → ComesAt old place part differs
+    → HandsOn (with_segment old place part) packets new → KeepsReading channel new → StandsAfter new.held rest
+    → Closes rest count part.number part.bytes is_missing is_full closed
+    → (IsTrue is_missing → IsTrue part.is_cut × (channel.direction.handed ≡ place + length part.bytes))
+    → (is_missing ≡ false → IsTrue part.is_cut → channel.direction.handed ≡ place + length part.bytes → ⊥)
+    → IsClosed channel closed final → EndsIn final old part packets differs count is_full closed
+ends channel final old new part packets differs place rest count is_missing is_full None long at hands keeps after closes missing whole is = (
+  true,
+  λ e. absurd (cc),
+  Reads new,
+  reads_on place new (Reads new) at hands
+      (refl, (closes.0, subst (StandsAfter new.held) closes.1 after), λ m. whole closes.2 m.0 (keeps.orders.reached ∙ m.1), refl),
+  subst (λ (ch : Channel). KeepsReading ch new) (sym is) keeps,
+)
+ends channel final old new part packets differs place rest count is_missing is_full (Some BadHeader) long at hands keeps after closes missing whole is = (
+  true,
+  λ e. absurd (cc),
+  AfterBadHeader,
+  reads_on place new AfterBadHeader at hands
+      ((closes.0, subst (StandsAfter new.held) closes.1 after), ap (lost why.BadHeader) (long ∙ ap length keeps.held)),
+  is,
+)
+ends channel final old new part packets differs place rest count is_missing is_full (Some (Gap None)) long at hands keeps after closes missing whole is =
+    ends_full final old new part packets differs place count closes.0 is_missing is_full at hands (subst (StandsAfter new.held) closes.1 after)
+    (λ t. ((missing t).0, sym keeps.orders.reached ∙ (missing t).1)) (long ∙ ap length keeps.held) is closes.2
+ends channel final old new part packets differs place rest count is_missing is_full (Some (Gap (Some end))) long at hands keeps after closes missing whole is =
     let needed = closes.2 in
-    let at : START + length new.out ≡ place + length one.bytes = sym keeps.orders.reached ∙ missing closes.0 in
+    let there : START + length new.out ≡ place + length part.bytes = sym keeps.orders.reached ∙ (missing closes.0).1 in
+    let count_is : count ≡ length new.held = long ∙ ap length keeps.held in
     let e : end ≡ (new.first + (START + length new.out) + needed) % 2 ^ 32 =
-    ends_there old.first place one.number (length one.bytes) needed end stands.number closes.4
-    ∙ ap (λ (n : ℕ). (n + (place + length one.bytes) + needed) % 2 ^ 32) (sym hands.first)
-    ∙ ap (λ (n : ℕ). (new.first + n + needed) % 2 ^ 32) (sym at) in
-    inl (
-      new,
+    ends_there old.first place part.number (length part.bytes) needed end at.at.number closes.4
+    ∙ ap (λ (n : ℕ). (n + (place + length part.bytes) + needed) % 2 ^ 32) (sym hands.first)
+    ∙ ap (λ (n : ℕ). (new.first + n + needed) % 2 ^ 32) (sym there) in (
+      true,
+      λ e. absurd (cc),
       AfterGap (Some end),
-      record { place = place; stands = stands; handed = hands },
-      (needed, subst (λ (n : ℕ). HEADER_LENGTH ≤ n) (long ∙ ap length keeps.held) closes.1, subst (StandsAfter new.held) closes.3 after, e),
+      reads_on place new (AfterGap (Some end)) at hands (((missing closes.0).0, there), (needed, subst (λ (n : ℕ). HEADER_LENGTH ≤ n) count_is closes.1, subst (StandsAfter new.held) closes.3 after, e), ap (lost why.Gap) count_is),
       is,
     )
 
@@ -184,9 +276,9 @@ ends channel final old new one place rest count is_missing is_full (Some (Gap (S
 pub held_is : (new before row : List ℕ) (end : ℕ) → new ≡ before ++ take (length row - end) (drop end row) → before ≡ [] → new ≡ drop end row
 held_is new before row end e empty = e ∙ ap (λ (x : List ℕ). x ++ take (length row - end) (drop end row)) empty ∙ take_rest row end
 
--- ---- a direction begins anew, or goes on
-pub grown_anew : (channel : Channel) (b : Bool) (x y : ℕ × List Seen) → b ≡ true → IsGrown channel x → IsGrown channel (cond b x y)
-grown_anew channel b x y e h = subst (λ (v : Bool). IsGrown channel (cond v x y)) (sym e) h
-
-pub grown_on : (channel : Channel) (b : Bool) (x y : ℕ × List Seen) → b ≡ false → IsGrown channel y → IsGrown channel (cond b x y)
-grown_on channel b x y e h = subst (λ (v : Bool). IsGrown channel (cond v x y)) (sym e) h
+-- ---- there is no room for what is kept
+pub scarce : (room kept held charge more before count : ℕ) → IsTrue (nat_lt room kept) → kept ≡ charge + held → held ≤ MAX_PACKET → charge ≤ more
+    → more ≤ grown before count → NoRoom before room count
+scarce room kept held charge more before count full is most less grows =
+    let over : room < kept = grind (arith, nat_tests, full) in
+    inr (omega (arith, over, is, most, less, grows))

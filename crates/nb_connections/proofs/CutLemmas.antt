@@ -2,10 +2,11 @@
 use Rattle.std.proofs.Common.{ℕ, ◌+◌, ◌<◌, ◌≤◌, List, [], ◌∷◌, ◌++◌, length, take, drop, ap, sym, subst, arith, append_assoc, append-nil}
 use Rattle.std.proofs.Math.Seq.{take-add}
 use Rattle.std.proofs.lemmas.List.{length-take-le}
-use Rattle.nb_session.specs.declared.parsing.Parsed.TheVariants.{Whole}
+use Rattle.nb_session.specs.declared.parsing.Parsed.TheVariants.{Whole, More}
 use Rattle.nb_session.specs.Cutting.{ArePackets, no_packet, one_more}
 use Rattle.nb_session.specs.Packet.{Packet, IsPacket}
-use Rattle.nb_session.specs.Parsing.{Parses, whole}
+use Rattle.nb_session.specs.Parsing.{Parses, body_lacks, header_lacks, whole}
+use Rattle.nb_session.specs.declared.limits.TheConstants.{MAX_PACKET}
 
 pub joined : (ps qs : List Packet) (f g : List ℕ) → ArePackets ps f → ArePackets qs g → ArePackets (ps ++ qs) (f ++ g)
 joined ps qs f g no_packet b = b
@@ -35,3 +36,8 @@ pub one_more_whole : (bytes : List ℕ) (ps : List Packet) (end used : ℕ) (p :
 one_more_whole bytes ps end used p are stands =
     let is = (stands_whole (drop end bytes) p used stands).1 in
     subst (λ (b : List ℕ). ArePackets (ps ++ p ∷ []) b) (sym (take-add end used bytes)) (joined ps (p ∷ []) (take end bytes) (take used (drop end bytes)) are (single p (take used (drop end bytes)) is))
+
+-- a packet that is awaited is no longer than one may be
+pub within_packet : (bytes : List ℕ) (needed : ℕ) → Parses bytes (More needed) → length bytes + needed ≤ MAX_PACKET
+within_packet bytes needed (header_lacks less) = omega (arith, less)
+within_packet bytes needed (body_lacks header kind has good less) = let flags = good.flags in let fits = has.length.fits in omega (arith, less, flags, fits)

@@ -1,111 +1,125 @@
 -- What is kept of each direction, after one more segment.
-use Rattle.std.proofs.Common.{ℕ, ◌≡◌, ◌+◌, ◌-◌, ◌^◌, ◌≤◌, min, arith, Bool, true, false, cond, inl, inr, List, [], ◌∷◌, ◌++◌, filter, refl, sym, ap, subst, ◌∙◌, append-nil, Option, Some, None}
+use Rattle.std.proofs.Common.{ℕ, ◌≡◌, ◌+◌, ◌-◌, ◌^◌, ◌≤◌, min, arith, Bool, true, false, cond, List, [], ◌∷◌, ◌++◌, filter, length, refl, sym, ap, subst, ◌∙◌, append-nil, Option, Some, None, Result, Ok, Err, IsErrAnd}
 use Rattle.std.proofs.lemmas.List.Elements.{filter-append}
 use Rattle.std.proofs.lemmas.List.Sums.{fold-append}
-use Rattle.nb_connections.specs.declared.channel.Channel.{Channel}
-use Rattle.nb_connections.specs.declared.ends.Ends.{Ends}
-use Rattle.std.specs.Cmp.{eq_by_cmp_equiv}
-use Rattle.nb_connections.specs.EndsFacts.{ends_cmp_total}
 use Rattle.std.specs.BTreeMap.{get, insert_entry, is_at}
 use Rattle.std.specs.Map.{lookup, set_value}
 use Rattle.std.specs.declared.cmp.Ordering.{Ordering}
 use Rattle.std.specs.declared.cmp.Ordering.TheVariants.{Less, Equal, Greater}
 use Rattle.std.specs.Ordering.{is_eq, match_ordering}
+use Rattle.nb_streams.specs.declared.bytes.NoMemory.{NoMemory}
 use Rattle.nb_session.specs.Cutting.{ArePackets, no_packet}
-use Rattle.nb_session.specs.Packet.{Packet}
+use Rattle.nb_connections.specs.declared.channel.Channel.{Channel}
 use Rattle.nb_connections.specs.declared.connections.Connections.{Connections}
 use Rattle.nb_connections.specs.declared.limits.TheConstants.{MAX_KEPT}
-use Rattle.nb_connections.specs.Channels.{Follows, IsGrown, begins, kept_of}
-use Rattle.nb_connections.specs.Directions.{Came, IsKept, Knows, Takes, came_of, grown, is_of, kept_in, since, step}
-use Rattle.nb_connections.specs.Ends.{ends_cmp, same_ends}
-use Rattle.nb_connections.specs.Reading.{Seen}
-use Rattle.nb_connections.proofs.EndsLemmas.{ends_exact}
+use Rattle.nb_connections.specs.declared.piece.Ends.{Ends}
+use Rattle.nb_connections.specs.declared.taken.Taken.{Taken}
+use Rattle.nb_connections.specs.Channels.{IsAnswered, IsGrown, begun_with, kept_of, with_one}
+use Rattle.nb_connections.specs.Directions.{Came, Enters, IsBounded, IsKept, IsLeft, came_of, is_of, kept_by, kept_in, room_for, since, step}
+use Rattle.nb_connections.specs.Ends.{ends_cmp, ends_exact, same_ends}
+use Rattle.nb_connections.specs.Reading.{Answer, Part, Seen}
+use Rattle.nb_connections.proofs.ChannelLemmas.{answered_more}
+
+-- the direction with these ends
+abbrev direction_of : Ends → List Came → Option (ℕ × List Seen)
+direction_of ends all = since (filter (is_of ends) all)
 
 since_by : (b : Bool) (before : List Came) (one : Came) → since (before ++ cond b (one ∷ []) []) ≡ cond b (step (since before) one) (since before)
 since_by true before one = fold-append step None before (one ∷ [])
 since_by false before one = ap since (append-nil before)
 
-since_more : (ends : Ends) (all : List Came) (one : Came) → since (filter (is_of ends) (all ++ one ∷ []))
-    ≡ cond (same_ends one.ends ends) (step (since (filter (is_of ends) all)) one) (since (filter (is_of ends) all))
-since_more ends all one = ap since (filter-append (is_of ends) all (one ∷ [])) ∙ since_by (same_ends one.ends ends) (filter (is_of ends) all) one
-
-known_by : (b : Bool) (ends : Ends) (old : Option Channel) (channel : Channel) (all : List Came) (one : Came) → same_ends one.ends ends ≡ b
-    → IsKept (Some channel) (step (since (filter (is_of one.ends) all)) one) → IsKept old (since (filter (is_of ends) all))
-    → IsKept (cond b (Some channel) old) (cond b (step (since (filter (is_of ends) all)) one) (since (filter (is_of ends) all)))
-known_by true ends old channel all one e own kept =
-    subst (λ (x : Ends). IsKept (Some channel) (step (since (filter (is_of x) all)) one)) (ends_exact one.ends ends e) own
-known_by false ends old channel all one e own kept = kept
-
--- the direction of a segment is known with it, and the others are as they were
-pub known_on : (old new : Ends → Option Channel) (channel : Channel) (all : List Came) (one : Came)
-    → ((ends : Ends) → new ends ≡ cond (same_ends one.ends ends) (Some channel) (old ends))
-    → IsKept (Some channel) (step (since (filter (is_of one.ends) all)) one)
-    → ((ends : Ends) → IsKept (old ends) (since (filter (is_of ends) all)))
-    → (ends : Ends) → IsKept (new ends) (since (filter (is_of ends) (all ++ one ∷ [])))
-known_on old new channel all one is own kept ends =
-    let b = same_ends one.ends ends in
-    let k : IsKept (cond b (Some channel) (old ends)) (cond b (step (since (filter (is_of ends) all)) one) (since (filter (is_of ends) all))) =
-    known_by b ends (old ends) channel all one refl own (kept ends) in
-    subst (λ (d : Option (ℕ × List Seen)). IsKept (new ends) d) (sym (since_more ends all one))
-    (subst (λ (x : Option Channel). IsKept x (cond b (step (since (filter (is_of ends) all)) one) (since (filter (is_of ends) all)))) (sym (is ends)) k)
+since_more : (ends : Ends) (all : List Came) (one : Came) → direction_of ends (all ++ one ∷ [])
+    ≡ cond (is_of ends one) (step (direction_of ends all) one) (direction_of ends all)
+since_more ends all one = ap since (filter-append (is_of ends) all (one ∷ [])) ∙ since_by (is_of ends one) (filter (is_of ends) all) one
 
 -- ---- connections
 abbrev pub at : Connections → Ends → Option Channel
 at connections ends = get ends_cmp connections.channels ends
 
-pub same_known : (old new : Connections) (all : List Came) → ((ends : Ends) → at new ends ≡ at old ends) → Knows old all → Knows new all
-same_known old new all same knows ends = subst (λ (x : Option Channel). IsKept x (since (filter (is_of ends) all))) (sym (same ends)) (knows ends)
+-- a segment that is of no direction
+pub enters_left : (old new : Connections) (ends : Ends) (resets opens : Bool) (part : Part) (ready : List ℕ) (result : Result Taken NoMemory)
+    → new.channels.entries ≡ old.channels.entries → new.kept ≡ old.kept → ready ≡ [] → IsLeft old ends resets opens part.bytes result
+    → Enters old ends resets opens part new ready result
+enters_left old new ends resets opens part ready result same kept empty left = λ all knows.
+    let answer : Answer = record { packets = []; left_out = None; differs = false; fits = true } in
+    let one = came_of ends opens part false answer in (
+      false,
+      answer,
+      subst (ArePackets []) (sym empty) no_packet,
+      (refl, left),
+      record {
+        each = λ e. subst (λ (d : Option (ℕ × List Seen)). IsKept (at new e) d) (sym (since_more e all one))
+            (subst (λ (o : Option Channel). IsKept o (direction_of e all)) (sym (ap (λ es. lookup (λ q. is_at (ends_cmp e) q) es) same)) (knows.each e));
+        bounded = (kept ∙ knows.bounded.0 ∙ ap kept_in (sym same), subst (λ (n : ℕ). n ≤ MAX_KEPT) (sym kept) knows.bounded.1);
+      },
+    )
 
--- a segment that isn't taken
-pub takes_none : (old new : Connections) (one : List Packet → Came) → ((ends : Ends) → at new ends ≡ at old ends) → new.ready.items ≡ [] → Takes old one new
-takes_none old new one same ready = λ all knows. ([], subst (ArePackets []) (sym ready) no_packet, inr (same_known old new all same knows, refl))
+pub left_unsaid : (P : NoMemory → Type 0) (old : Connections) (ends : Ends) (resets opens : Bool) (bytes : List ℕ) (r : Result Taken NoMemory) → IsErrAnd r P
+    → IsLeft old ends resets opens bytes r
+left_unsaid P old ends resets opens bytes (Ok taken) h = absurd h
+left_unsaid P old ends resets opens bytes (Err e) h = tt
 
--- what receive answers
-abbrev pub Receives : Channel → Channel → Bool → ℕ → List ℕ → ℕ → List ℕ → Type 0
-Receives was new opens number bytes numbers ready = (seen : List Seen) → Follows was seen → (packets : List Packet) × ArePackets packets ready
-    × IsGrown new (cond (begins was.first opens number) (number, (record { number = number; bytes = bytes; numbers = numbers; packets = packets }) ∷ [])
-    (was.first, seen ++ (record { number = number; bytes = bytes; numbers = numbers; packets = packets }) ∷ []))
+-- a segment that is read
+known_by : (b : Bool) (ends own : Ends) (old : Option Channel) (channel : Channel) (all : List Came) (one : Came) → same_ends own ends ≡ b
+    → IsKept (Some channel) (step (direction_of own all) one) → IsKept old (direction_of ends all)
+    → IsKept (cond b (Some channel) old) (cond b (step (direction_of ends all) one) (direction_of ends all))
+known_by true ends own old channel all one e its kept = subst (λ (x : Ends). IsKept (Some channel) (step (direction_of x all) one)) (ends_exact own ends e) its
+known_by false ends own old channel all one e its kept = kept
 
-grown_own : (old : Option Channel) (was new : Channel) (direction : Option (ℕ × List Seen)) (ends : Ends) (opens : Bool) (number : ℕ) (bytes : List ℕ) (numbers : ℕ)
-    (ready : List ℕ) → old ≡ Some was → IsKept old direction → Receives was new opens number bytes numbers ready
-    → (packets : List Packet) × ArePackets packets ready × IsKept (Some new) (step direction (came_of ends opens number bytes numbers packets))
-grown_own old was new None ends opens number bytes numbers ready e kept receives =
-    absurd (subst (λ (o : Option Channel). IsKept o None) e kept)
-grown_own old was new (Some direction) ends opens number bytes numbers ready e kept receives =
-    let k : IsKept (Some was) (Some direction) = subst (λ (o : Option Channel). IsKept o (Some direction)) e kept in
-    let got = receives direction.1 k.1 in
-    (got.0, got.1, subst (λ (n : ℕ). IsGrown new (grown n direction.1 (came_of ends opens number bytes numbers got.0))) k.0 got.2)
+pub enters_read : (old new : Connections) (channel : Channel) (ends : Ends) (opens : Bool) (part : Part) (ready : List ℕ) (result : Result Taken NoMemory)
+    → ((e : Ends) → at new e ≡ cond (same_ends ends e) (Some channel) (at old e)) → (IsBounded old → IsBounded new)
+    → ((direction : Option (ℕ × List Seen)) → IsKept (at old ends) direction → (answer : Answer) × ArePackets answer.packets ready
+    × IsAnswered (kept_by (at old ends)) (room_for old ends) (length part.bytes) answer result
+    × IsKept (Some channel) (step direction (came_of ends opens part true answer)))
+    → Enters old ends false opens part new ready result
+enters_read old new channel ends opens part ready result is bounded reads = λ all knows.
+    let got = reads (direction_of ends all) (knows.each ends) in
+    let one = came_of ends opens part true got.0 in (
+      true,
+      got.0,
+      got.1,
+      (refl, got.2),
+      record {
+        each = λ e. subst (λ (d : Option (ℕ × List Seen)). IsKept (at new e) d) (sym (since_more e all one))
+            (subst (λ (o : Option Channel). IsKept o (cond (same_ends ends e) (step (direction_of e all) one) (direction_of e all))) (sym (is e))
+            (known_by (same_ends ends e) e ends (at old e) channel all one refl got.3 (knows.each e)));
+        bounded = bounded knows.bounded;
+      },
+    )
 
-pub takes_received : (old new : Connections) (was channel : Channel) (ends : Ends) (opens : Bool) (number : ℕ) (bytes : List ℕ) (numbers : ℕ)
-    → at old ends ≡ Some was → ((e : Ends) → at new e ≡ cond (same_ends ends e) (Some channel) (at old e))
-    → Receives was channel opens number bytes numbers new.ready.items → Takes old (came_of ends opens number bytes numbers) new
-takes_received old new was channel ends opens number bytes numbers there is receives = λ all knows.
-    let got = grown_own (at old ends) was channel (since (filter (is_of ends) all)) ends opens number bytes numbers new.ready.items there (knows ends) receives in
-    (got.0, got.1, inl (known_on (at old) (at new) channel all (came_of ends opens number bytes numbers got.0) is got.2 knows))
+-- what a direction answers that is read
+abbrev pub Reads : (ℕ × List Seen) → Channel → Part → List ℕ → ℕ → ℕ → Result Taken NoMemory → Type 0
+Reads direction new part ready kept room result = (answer : Answer) × ArePackets answer.packets ready × IsAnswered kept room (length part.bytes) answer result
+    × IsGrown new (with_one direction (record { part = part; answer = answer }))
 
-begun_own : (old : Option Channel) (channel : Channel) (direction : Option (ℕ × List Seen)) (one : Came) → old ≡ None → IsKept old direction
-    → channel.first ≡ one.seen.number → Follows channel (one.seen ∷ []) → IsKept (Some channel) (step direction one)
-begun_own old channel None one e kept first follows = (first, follows)
-begun_own old channel (Some direction) one e kept first follows = absurd (subst (λ (o : Option Channel). IsKept o (Some direction)) e kept)
+pub reads_held : (was new : Channel) (ends : Ends) (opens : Bool) (part : Part) (ready : List ℕ) (kept room room' : ℕ) (result : Result Taken NoMemory)
+    (old : Option Channel) → old ≡ Some was → kept ≤ kept_of was → room ≡ room'
+    → ((direction : ℕ × List Seen) → IsGrown was direction → Reads (begun_with direction opens part.number) new part ready kept room result)
+    → (direction : Option (ℕ × List Seen)) → IsKept old direction → (answer : Answer) × ArePackets answer.packets ready
+    × IsAnswered (kept_by old) room' (length part.bytes) answer result × IsKept (Some new) (step direction (came_of ends opens part true answer))
+reads_held was new ends opens part ready kept room room' result old e le same reads None kept_none = absurd (subst (λ (o : Option Channel). IsKept o None) e kept_none)
+reads_held was new ends opens part ready kept room room' result old e le same reads (Some direction) follows =
+    let got = reads direction (subst (λ (o : Option Channel). IsKept o (Some direction)) e follows) in (
+      got.0,
+      got.1,
+      subst (λ (n : ℕ). IsAnswered n room' (length part.bytes) got.0 result) (sym (ap kept_by e))
+          (subst (λ (n : ℕ). IsAnswered (kept_of was) n (length part.bytes) got.0 result) same (answered_more kept (kept_of was) room (length part.bytes) got.0 result le got.2)),
+      got.3,
+    )
 
-pub takes_begun : (old new : Connections) (channel : Channel) (ends : Ends) (opens : Bool) (number : ℕ) (bytes : List ℕ) (numbers : ℕ)
-    → at old ends ≡ None → ((e : Ends) → at new e ≡ cond (same_ends ends e) (Some channel) (at old e)) → channel.first ≡ number
-    → ((packets : List Packet) × ArePackets packets new.ready.items
-    × Follows channel ((record { number = number; bytes = bytes; numbers = numbers; packets = packets }) ∷ []))
-    → Takes old (came_of ends opens number bytes numbers) new
-takes_begun old new channel ends opens number bytes numbers none is first got = λ all knows. (
+pub reads_new : (new : Channel) (ends : Ends) (opens : Bool) (part : Part) (ready : List ℕ) (kept room room' : ℕ) (result : Result Taken NoMemory)
+    (old : Option Channel) → old ≡ None → kept ≡ 0 → room ≡ room' → Reads (part.number, []) new part ready kept room result
+    → (direction : Option (ℕ × List Seen)) → IsKept old direction → (answer : Answer) × ArePackets answer.packets ready
+    × IsAnswered (kept_by old) room' (length part.bytes) answer result × IsKept (Some new) (step direction (came_of ends opens part true answer))
+reads_new new ends opens part ready kept room room' result old e empty same got None none = (
   got.0,
   got.1,
-  inl (known_on (at old) (at new) channel all (came_of ends opens number bytes numbers got.0) is
-      (begun_own (at old ends) channel (since (filter (is_of ends) all)) (came_of ends opens number bytes numbers got.0) none (knows ends) first got.2) knows),
+  subst (λ (n : ℕ). IsAnswered n room' (length part.bytes) got.0 result) (empty ∙ sym (ap kept_by e))
+      (subst (λ (n : ℕ). IsAnswered kept n (length part.bytes) got.0 result) same got.2),
+  got.3,
 )
-
--- a segment whose parts are these
-pub takes_same : (old new : Connections) (ends ends' : Ends) (opens opens' : Bool) (number number' : ℕ) (bytes bytes' : List ℕ) (numbers numbers' : ℕ)
-    → ends ≡ ends' → opens ≡ opens' → number ≡ number' → bytes ≡ bytes' → numbers ≡ numbers' → Takes old (came_of ends opens number bytes numbers) new
-    → Takes old (came_of ends' opens' number' bytes' numbers') new
-takes_same old new ends ends' opens opens' number number' bytes bytes' numbers numbers' e₀ e₁ e₂ e₃ e₄ takes =
-    subst (λ (one : List Packet → Came). Takes old one new) (λ i. came_of (e₀ i) (e₁ i) (e₂ i) (e₃ i) (e₄ i)) takes
+reads_new new ends opens part ready kept room room' result old e empty same got (Some direction) follows =
+    absurd (subst (λ (o : Option Channel). IsKept o (Some direction)) e follows)
 
 -- ---- how much is kept
 
@@ -170,10 +184,3 @@ pub bounded_new : (total kept empty new room result : ℕ) → kept ≡ total �
 bounded_new total kept empty new room result e most r z fits is =
     let n = fits (omega (arith, z)) in
     (omega (arith, e, n, r, is, most), omega (arith, e, n, r, is, most))
-
--- ---- a segment of which nothing is left out
-pub same_self : (ends : Ends) → same_ends ends ends ≡ true
-same_self ends = (eq_by_cmp_equiv ends_cmp_total).refl ends
-
-pub some_left : {A B : Type 0} (o : Option A) (x : A) → o ≡ Some x → o ≡ None → B
-some_left o x e none = absurd (cc)

@@ -1,4 +1,3 @@
 mod CutLemmas
 mod ChannelLemmas
-mod EndsLemmas
 mod DirectionsLemmas

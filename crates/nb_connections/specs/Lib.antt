@@ -1,5 +1,4 @@
 pub mod Ends
-pub mod EndsFacts
 pub mod Rests
 pub mod Reading
 pub mod Course

@@ -1,16 +1,16 @@
 //! All connections of a capture.
-ghost use Rattle.std.specs.Prelude.{IfOk, length, ◌≡◌, ◌+◌, None, [], OnErr, OnOk, Some, cond};
+ghost use Rattle.std.specs.Prelude.{◌≡◌, ◌+◌, false, None, [], OnErr, OnOk, Some, cond};
 ghost use Rattle.std.specs.BTreeMap.{get};
-ghost use Rattle.nb_connections.specs.Directions.{IsBounded, IsRead, Knows, Takes, kept_in, came, came_at, ends_of, first_number, has, numbers_of};
+ghost use Rattle.nb_connections.specs.Directions.{Enters, Knows, Takes, first_number, has, kept_in, lost_after, lost_with, may_begin, numbers_of, unfinished_of};
 ghost use Rattle.nb_connections.specs.Channels.{kept_of};
 ghost use Rattle.nb_connections.specs.Ends.{ends_cmp, same_ends};
-ghost use Rattle.nb_connections.specs.declared.ends.Ends.{Ends as EndsValue};
+ghost use Rattle.nb_connections.specs.Reading.{part_of};
+ghost use Rattle.nb_connections.specs.declared.piece.Ends.{Ends as EndsValue};
 
 use crate::channel::Channel;
-use crate::ends::Ends;
 use crate::limits::{MAX_DIRECTIONS, MAX_KEPT};
-use crate::piece::Piece;
-use crate::taken::{LeftOut, Reason, Taken};
+use crate::piece::{Ends, Piece};
+use crate::taken::{Reason, Taken};
 use nb_frames::{TcpFlags, TcpSegment};
 use nb_session::limits::HEADER_LENGTH;
 use nb_streams::NoMemory;
@@ -24,86 +24,103 @@ pub struct Connections {
     channels: BTreeMap<Ends, Channel>,
     /// How much they keep together, in bytes.
     kept: usize,
-    /// The packets that the last segment completed, one after another.
-    ready: Vec<u8>,
+    /// How many directions began anew while some of their bytes were in no packet.
+    lost: u64,
 }
 
 impl Connections {
     /// None yet. No memory is taken.
     pub fn new(alloc: Global) -> Connections
-        ensures knows { Knows result [] }
-        ensures ready { result.ready.items ≡ [] }
-        ensures bounded { IsBounded result }
+        ensures { Knows result [] }
     {
         Connections {
             alloc,
             channels: BTreeMap::new(alloc),
             kept: 0,
-            ready: Vec::new(alloc),
+            lost: 0,
         }
     }
 
-    /// The session packets that the segment taken last completes, one after another.
-    pub fn packets(&self) -> &[u8]
-        ensures { result.now ≡ self.now.ready.items }
-    {
-        self.ready.as_slice()
-    }
-
-    /// Takes a segment, the next one of the capture.
+    /// Takes a segment, the next one of the capture. The session packets that it completes are put
+    /// in `ready`, one after another.
     ///
     /// # Errors
     ///
     /// [`NoMemory`] where memory ran out. Nothing more is handed on of its direction then, until it
     /// begins anew.
-    pub fn take(&mut self, segment: &TcpSegment<'_>) -> Result<Taken, NoMemory>
-        ensures takes { Takes self.old (came segment.now) self.new }
-        ensures read { IfOk result (λ taken. taken.left_out ≡ None →
-            IsRead self.new (ends_of segment.now)) }
-        ensures bounded { IsBounded self.old → IsBounded self.new }
+    pub fn take(&mut self, segment: &TcpSegment<'_>, ready: &mut Vec<u8>) -> Result<Taken, NoMemory>
+        ensures takes { Takes self.old segment.now self.new ready.new.items result }
+        ensures lost { self.new.lost ≡ lost_after self.old segment.now }
     {
         let bytes = segment.payload.bytes();
         if has(segment.flags, RST) {
-            return Ok(self.leave_out(Reason::Reset, bytes));
+            ready.clear();
+            return Ok(Taken::left_out(Reason::Reset, bytes.len(), false));
         }
         let opens = has(segment.flags, SYN);
         let piece = Piece {
             number: first_number(segment.sequence, opens),
             bytes,
             numbers: numbers_of(segment.payload.wire_len(), has(segment.flags, FIN)),
-            is_cut: segment.payload.is_cut(),
+            is_cut: bytes.len() < segment.payload.wire_len(),
         };
-        self.enter(ends_of(segment), opens, &piece)
+        let ends = Ends {
+            hosts: segment.hosts,
+            ports: segment.ports,
+        };
+        self.enter(ends, opens, &piece, ready)
+    }
+
+    /// Of how many directions some bytes are in no packet, since others didn't come; those that
+    /// began anew so count too.
+    pub fn unfinished(&self) -> u64
+        ensures { result ≡ unfinished_of self.now }
+    {
+        let mut count = self.lost;
+        'channels: for channel in self.channels.values() {
+            count = count.saturating_add(u64::from(channel.is_unfinished()));
+        }
+        count
     }
 
     /// Takes a segment between these ends.
-    fn enter(&mut self, ends: Ends, opens: bool, piece: &Piece<'_>) -> Result<Taken, NoMemory>
-        ensures takes { Takes self.old (came_at ends opens piece.now) self.new }
-        ensures read { IfOk result (λ taken. taken.left_out ≡ None → IsRead self.new ends) }
-        ensures bounded { IsBounded self.old → IsBounded self.new }
+    fn enter(
+        &mut self,
+        ends: Ends,
+        opens: bool,
+        piece: &Piece<'_>,
+        ready: &mut Vec<u8>,
+    ) -> Result<Taken, NoMemory>
+        ensures enters { Enters self.old ends false opens (part_of piece.now) self.new
+            ready.new.items result }
+        ensures lost { self.new.lost ≡ lost_with self.old.lost
+            (get ends_cmp self.old.channels ends) opens piece.now.number }
     {
         match self.channels.get_mut(&ends) {
             Some(channel) => {
                 let before = channel.kept();
                 let others = self.kept.saturating_sub(before);
                 let room = MAX_KEPT.saturating_sub(others);
-                let taken = channel.receive(self.alloc, opens, piece, room, &mut self.ready);
+                let lost = channel.begin(self.alloc, opens, piece.number);
+                self.lost = self.lost.saturating_add(u64::from(lost));
+                let taken = channel.take(self.alloc, piece, room, ready);
                 self.kept = others.saturating_add(channel.kept());
                 return taken;
             }
             None => {}
         }
+        ready.clear();
         if !may_begin(opens, piece.bytes) {
-            return Ok(self.leave_out(Reason::NoStart, piece.bytes));
+            return Ok(Taken::left_out(Reason::NoStart, piece.bytes.len(), false));
         }
         if self.channels.len() >= MAX_DIRECTIONS {
-            return Ok(self.leave_out(Reason::TooMany, piece.bytes));
+            return Ok(Taken::left_out(Reason::TooMany, piece.bytes.len(), false));
         }
         let mut channel = Channel::new(self.alloc, piece.number);
         let room = MAX_KEPT.saturating_sub(self.kept);
-        let taken = channel.take(self.alloc, piece, room, &mut self.ready);
+        let taken = channel.take(self.alloc, piece, room, ready);
         let kept = channel.kept();
-        self.admit(ends, channel)?;
+        self.admit(ends, channel, ready)?;
         self.kept = self.kept.saturating_add(kept);
         taken
     }
@@ -113,43 +130,23 @@ impl Connections {
     /// # Errors
     ///
     /// Memory ran out. Nothing is kept then, and no packets are ready.
-    fn admit(&mut self, ends: Ends, channel: Channel) -> Result<(), NoMemory>
+    fn admit(&mut self, ends: Ends, channel: Channel, ready: &mut Vec<u8>) -> Result<(), NoMemory>
         ensures ok { OnOk result ((q : EndsValue) → get ends_cmp self.new.channels q
             ≡ cond (same_ends ends q) (Some channel) (get ends_cmp self.old.channels q)) }
-        ensures ready { OnOk result (self.new.ready.items ≡ self.old.ready.items) }
-        ensures err { OnErr result ((q : EndsValue) → get ends_cmp self.new.channels q
-            ≡ get ends_cmp self.old.channels q) }
-        ensures none { OnErr result (self.new.ready.items ≡ []) }
-        ensures kept { self.new.kept ≡ self.old.kept }
         ensures sum { OnOk result (get ends_cmp self.old.channels ends ≡ None →
             kept_in self.new.channels.entries
             ≡ kept_in self.old.channels.entries + kept_of channel) }
-        ensures same { OnErr result (self.new.channels.entries ≡ self.old.channels.entries) }
+        ensures ready { OnOk result (ready.new.items ≡ ready.old.items) }
+        ensures err { OnErr result ((ready.new.items ≡ [])
+            × (self.new.channels.entries ≡ self.old.channels.entries)) }
+        ensures counts { (self.new.kept ≡ self.old.kept) × (self.new.lost ≡ self.old.lost) }
     {
         match self.channels.insert(ends, channel) {
             Ok(_) => Ok(()),
             Err(_) => {
-                self.ready.clear();
+                ready.clear();
                 Err(NoMemory)
             }
-        }
-    }
-
-    /// Leaves out the bytes of a segment.
-    fn leave_out(&mut self, reason: Reason, bytes: &[u8]) -> Taken
-        ensures left { result.left_out
-            ≡ Some (record { reason = reason; count = length bytes.now }) }
-        ensures channels { self.new.channels ≡ self.old.channels }
-        ensures ready { self.new.ready.items ≡ [] }
-        ensures kept { self.new.kept ≡ self.old.kept }
-    {
-        self.ready.clear();
-        Taken {
-            left_out: Some(LeftOut {
-                reason,
-                count: bytes.len(),
-            }),
-            differs: false,
         }
     }
 }
@@ -170,21 +167,11 @@ fn has(flags: TcpFlags, bit: u8) -> bool
     flags.0 & bit != 0
 }
 
-/// The ends of a segment's direction.
-fn ends_of(segment: &TcpSegment<'_>) -> Ends
-    ensures { result ≡ ends_of segment.now }
-{
-    Ends {
-        source: segment.hosts.source,
-        destination: segment.hosts.destination,
-        source_port: segment.ports.source,
-        destination_port: segment.ports.destination,
-    }
-}
-
 /// Whether a direction may begin with a segment: where it has no SYN, the header of a packet is
 /// there.
-fn may_begin(opens: bool, bytes: &[u8]) -> bool {
+fn may_begin(opens: bool, bytes: &[u8]) -> bool
+    ensures { result ≡ may_begin opens bytes.now }
+{
     opens || bytes.len() >= HEADER_LENGTH
 }
 

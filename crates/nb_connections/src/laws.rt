@@ -3,9 +3,8 @@ ghost use Rattle.std.specs.Prelude.{◌≡◌, ℕ, ◌++◌, ◌∷◌, List, S
 ghost use Rattle.nb_connections.specs.Channels.{begins};
 ghost use Rattle.nb_connections.specs.Course.{AfterBadHeader, AfterGap, reading_at};
 ghost use Rattle.nb_connections.specs.Directions.{Came, is_of, since};
-ghost use Rattle.nb_connections.specs.Ends.{same_ends};
 ghost use Rattle.nb_connections.specs.Reading.{started};
-ghost use Rattle.nb_connections.specs.declared.ends.Ends.{Ends};
+ghost use Rattle.nb_connections.specs.declared.piece.Ends.{Ends};
 ghost use Rattle.nb_connections.specs.declared.limits.TheConstants.{MAX_DIRECTIONS, MAX_KEPT};
 
 /// The same SYN again changes nothing. One with another number begins a direction anew, and nothing
@@ -25,10 +24,10 @@ pub fn a_gap_ends_where_the_packet_does()
     ensures header { (number : ℕ) → reading_at AfterBadHeader number ≡ None }
 {}
 
-/// Segments of other directions change nothing of one.
+/// Segments of other directions, and those that are of none, change nothing of one.
 pub fn others_change_nothing()
     ensures { (ends : Ends) (before later : List Came) (other : Came) →
-        same_ends other.ends ends ≡ false →
+        is_of ends other ≡ false →
         since (filter (is_of ends) (before ++ other ∷ later))
         ≡ since (filter (is_of ends) (before ++ later)) }
 {}

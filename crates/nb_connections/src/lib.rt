@@ -2,14 +2,14 @@
 #![tactic(auto)]
 
 mod channel;
+mod closing;
 mod connections;
 mod cutting;
-mod ends;
 pub mod laws;
 pub mod limits;
 mod piece;
 mod taken;
 
 pub use connections::Connections;
-pub use ends::Ends;
+pub use piece::Ends;
 pub use taken::{LeftOut, Reason, Taken};

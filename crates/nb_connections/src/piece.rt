@@ -1,4 +1,15 @@
-//! What a segment has of a direction.
+//! What a segment has, and of which direction.
+use nb_frames::{Hosts, Ports};
+
+/// From where to where the segments of a direction go. They are ordered by the hosts, then by the
+/// ports (our choice).
+#[derive(Clone, Copy, Debug, PartialEq, Eq, PartialOrd, Ord)]
+pub struct Ends {
+    /// The hosts.
+    pub hosts: Hosts,
+    /// The ports.
+    pub ports: Ports,
+}
 
 /// What a segment has of its direction.
 #[derive(Clone, Copy, Debug)]

@@ -1,4 +1,5 @@
 //! What became of a segment.
+ghost use Rattle.std.specs.Prelude.{◌≡◌, Some};
 
 /// What became of a segment.
 #[derive(Clone, Copy, Debug, PartialEq, Eq)]
@@ -8,6 +9,21 @@ pub struct Taken {
     /// Whether one of its bytes came before with another value, at a place that is still known. The
     /// byte that came first counts.
     pub differs: bool,
+}
+
+impl Taken {
+    /// So many bytes are left out.
+    pub(crate) fn left_out(reason: Reason, count: usize, differs: bool) -> Taken
+        ensures { result ≡ record {
+          left_out = Some (record { reason = reason; count = count });
+          differs = differs;
+        } }
+    {
+        Taken {
+            left_out: Some(LeftOut { reason, count }),
+            differs,
+        }
+    }
 }
 
 /// Bytes that are in no packet.

@@ -19,12 +19,10 @@ use Rattle.nb_fragments.specs.declared.taken.Taken.TheVariants.{Whole, Kept, Aga
 use Rattle.nb_fragments.specs.declared.taken.Refusal.TheVariants.{TooMany}
 use Rattle.nb_fragments.specs.declared.waiting.Waiting.{Waiting}
 use Rattle.nb_fragments.specs.declared.fragments.Fragments.{Fragments}
-use Rattle.nb_fragments.specs.Keys.{key_cmp, same_key}
-use Rattle.nb_fragments.specs.KeyFacts.{key_cmp_total}
+use Rattle.nb_fragments.specs.Keys.{key_cmp, key_cmp_total, key_exact, same_key}
 use Rattle.nb_fragments.specs.Live.{Came, is_of, of_key, cover_at}
 use Rattle.nb_fragments.specs.Taking.{IsTaken, MakesOf, live_after}
 use Rattle.nb_fragments.specs.Code.Kept.{IsPut, Joins, charge_of, Known, Waits, came_at, known_by, known_cover, known_of, known_with, kept_at}
-use Rattle.nb_fragments.proofs.KeyLemmas.{key_exact}
 
 -- ---- what is joined
 

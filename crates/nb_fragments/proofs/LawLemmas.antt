@@ -7,9 +7,8 @@ use Rattle.nb_entries.specs.declared.slot.Slot.TheVariants.{Held}
 use Rattle.nb_entries.specs.Shared.SlotLemmas.{join-assoc, join-comm}
 use Rattle.nb_entries.specs.Shared.CoverLemmas.{covers_unite}
 use Rattle.nb_fragments.specs.declared.key.Key.{Key}
-use Rattle.nb_fragments.specs.Keys.{same_key}
+use Rattle.nb_fragments.specs.Keys.{key_exact, same_key}
 use Rattle.nb_fragments.specs.Live.{Came, is_of, of_key, cover_at}
-use Rattle.nb_fragments.proofs.KeyLemmas.{key_exact}
 use Rattle.nb_fragments.proofs.JoinLemmas.{fold-more, of_key-more, own_key}
 
 pub keys_decide : (a b : Key) → Decides (same_key a b) (a ≡ b)

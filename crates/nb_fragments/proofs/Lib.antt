@@ -1,4 +1,3 @@
-mod KeyLemmas
 mod LiveLemmas
 mod JoinLemmas
 mod TakeLemmas

@@ -3,15 +3,15 @@ use Rattle.std.proofs.Common.{ℕ, ◌≡◌, ◌≤◌, ◌<◌, ◌+◌, refl,
 use Rattle.std.proofs.lemmas.Bool.{leb-true, leb-false}
 use Rattle.std.proofs.lemmas.Option.{same_Some}
 use Rattle.std.proofs.lemmas.List.Sums.{sum_by-cons}
-use Rattle.std.specs.BTreeMap.{btree_map_len}
+use Rattle.std.specs.BTreeMap.{btree_map_len, get}
 use Rattle.std.specs.Map.{lookup}
+use Rattle.nb_fragments.specs.Keys.{key_cmp, key_exact}
 use Rattle.nb_fragments.specs.declared.key.Key.{Key}
 use Rattle.nb_fragments.specs.declared.limits.TheConstants.{LIFETIME, ROOM}
 use Rattle.nb_fragments.specs.declared.waiting.Waiting.{Waiting}
 use Rattle.nb_fragments.specs.declared.fragments.Fragments.{Fragments}
 use Rattle.nb_fragments.specs.Live.{Came, is_of, of_key, start_of, is_over, live_at}
 use Rattle.nb_fragments.specs.Code.Kept.{Known, charge_of, known_of, known_by, kept_at, Waits, still_kept, earliest_in, used_in}
-use Rattle.nb_fragments.proofs.KeyLemmas.{key_exact}
 
 -- ---- what stays live
 
@@ -80,7 +80,7 @@ none_over now least (Some w) over h = at (is_over now (Some w.start)) refl
 pub waits_still : (f g : Fragments) (now : ℕ) (live : List Came) → Waits f live → is_over now (Some f.earliest) ≡ false → g.waiting ≡ f.waiting → g.earliest ≡ f.earliest → g.used ≡ f.used
     → Waits g (live_at now live)
 waits_still f g now live h over same least used =
-    let kept : (k : Key) → kept_at g k ≡ kept_at f k = λ k. ap (λ m. kept_at (record { alloc = f.alloc; waiting = m; clock = f.clock; earliest = f.earliest; used = f.used }) k) same in
+    let kept : (k : Key) → kept_at g k ≡ kept_at f k = λ k. ap (λ m. get key_cmp m k) same in
     waits_on f g now live h
     (λ k. kept k ∙ none_over now f.earliest (kept_at f k) over (h.early k))
     (λ k w e. subst (λ n. n ≤ w.start) (sym least) (h.early k w (sym (kept k) ∙ e)))

@@ -25,7 +25,7 @@ came_now now f = record { time = now; key = key_of f; piece = piece_in f }
 abbrev pub IsTaken : CoverValue → CoverValue → Taken → Type 0
 IsTaken before after (Whole bytes) = (data_of before ≡ None) × (data_of after ≡ Some bytes)
 IsTaken before after Kept = (after ≢ Spoilt) × (data_of after ≡ None)
-IsTaken before after Again = (after ≢ Spoilt) × (is_some (data_of before) ≡ true)
+IsTaken before after Again = (is_some (data_of before) ≡ true) × (is_some (data_of after) ≡ true)
 IsTaken before after Disagrees = after ≡ Spoilt
 IsTaken before after (LeftOut refusal) = ⊥
 

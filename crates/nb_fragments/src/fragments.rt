@@ -1,5 +1,5 @@
 //! Fragments, by the packet that they are of.
-ghost use Rattle.std.specs.Prelude.{◌≡◌, ◌≤◌, ◌<◌, ◌^◌, ◌+◌, ◌-◌, [], ◌∷◌, ◌++◌, ℕ, List, length, IfOk, OnOk, OnErr, MatchOption, None, Ok, Some};
+ghost use Rattle.std.specs.Prelude.{◌≡◌, ◌≤◌, ◌<◌, ◌^◌, ◌+◌, ◌-◌, [], List, length, IfOk, OnOk, OnErr, MatchOption, None, Ok, Some};
 ghost use Rattle.std.specs.BTreeMap.{btree_map_len, get, values};
 ghost use Rattle.nb_datagram.specs.declared.limits.TheConstants.{MAX_LENGTH};
 ghost use Rattle.nb_entries.specs.Piece.{piece_reach};
@@ -9,14 +9,14 @@ ghost use Rattle.nb_fragments.specs.declared.taken.Taken.TheVariants.{LeftOut};
 ghost use Rattle.nb_fragments.specs.declared.taken.Refusal.TheVariants.{TooMany};
 ghost use Rattle.nb_fragments.specs.declared.limits.TheConstants.{KEYS, ROOM};
 ghost use Rattle.nb_fragments.specs.Keys.{key_cmp, key_of};
-ghost use Rattle.nb_fragments.specs.Live.{Came, clock_after, cover_at, is_over, live_at};
+ghost use Rattle.nb_fragments.specs.Live.{Came, clock_after, live_at};
 ghost use Rattle.nb_fragments.specs.Taking.{Answers, IsLong, MakesOf, came_now, live_after, piece_in};
-ghost use Rattle.nb_fragments.specs.Code.Kept.{IsFull, Joins, Waits, came_at, charge_of, clock_of, earliest_in, still_kept, used_in};
+ghost use Rattle.nb_fragments.specs.Code.Kept.{IsFull, Joins, Waits, came_at, charge_of, clock_of, earliest_in, lost_at, lost_in, still_kept, unfinished_of, used_in};
 
 use crate::key::Key;
-use crate::limits::{KEYS, LIFETIME, ROOM};
+use crate::limits::{KEYS, ROOM};
 use crate::taken::{Refusal, Taken};
-use crate::waiting::Waiting;
+use crate::waiting::{Waiting, is_over};
 use nb_entries::Piece;
 use nb_frames::IpFragment;
 use nb_streams::NoMemory;
@@ -34,6 +34,8 @@ pub struct Fragments {
     earliest: u64,
     /// At least how many bytes are kept.
     used: usize,
+    /// How many packets were dropped of which some fragments didn't come.
+    lost: u64,
 }
 
 impl Fragments {
@@ -41,6 +43,7 @@ impl Fragments {
     pub fn new(alloc: Global) -> Fragments
         ensures live { Waits result [] }
         ensures clock { clock_of result ≡ 0 }
+        ensures lost { result.lost ≡ 0 }
     {
         Fragments {
             alloc,
@@ -48,6 +51,7 @@ impl Fragments {
             clock: 0,
             earliest: u64::MAX,
             used: 0,
+            lost: 0,
         }
     }
 
@@ -72,6 +76,7 @@ impl Fragments {
             IsFull self.new (key_of fragment.now) (length fragment.now.payload.bytes) }
         ensures err { OnErr result ((live : List Came) → Waits self.old live →
             Waits self.new (live_at (clock_of self.new) live)) }
+        ensures lost { self.new.lost ≡ lost_at self.old (clock_of self.new) }
     {
         self.advance(time);
         if fragment.payload.is_cut() {
@@ -83,26 +88,17 @@ impl Fragments {
         }
     }
 
-    /// How many packets some fragments are kept of.
-    pub fn len(&self) -> usize
-        ensures { (live : List Came) → Waits self.now live → result ≤ KEYS }
+    /// Of how many packets some fragments came and others didn't: those that were dropped so, and
+    /// those that are kept.
+    pub fn unfinished(&self) -> u64
+        ensures { result ≡ unfinished_of self.now }
     {
-        self.waiting.len()
-    }
-
-    /// How many bytes count of what is kept: those of the fragments that said more than the ones
-    /// before them.
-    pub fn used(&self) -> usize
-        ensures charge { (live : List Came) → Waits self.now live →
-            charge_of self.now.waiting ≤ result }
-        ensures room { (live : List Came) → Waits self.now live → result ≤ ROOM }
-    {
-        self.used
+        lost_of(&self.waiting, None, self.lost)
     }
 
     /// Joins a piece of a packet that comes now.
     fn join(&mut self, key: Key, piece: &Piece<'_>) -> Result<Taken, NoMemory>
-        ensures clock { clock_of self.new ≡ clock_of self.old }
+        ensures counts { (clock_of self.new ≡ clock_of self.old) × (self.new.lost ≡ self.old.lost) }
         ensures live { IfOk result (λ taken. (live : List Came) → Waits self.old live →
             Waits self.new (live_after taken (came_at self.old key piece.now) live)) }
         ensures answer { IfOk result (λ taken. (live : List Came) → Waits self.old live →
@@ -131,6 +127,7 @@ impl Fragments {
     /// Sets the clock, and drops what is over by it.
     fn advance(&mut self, time: Option<u64>)
         ensures clock { clock_of self.new ≡ clock_after (clock_of self.old) time }
+        ensures lost { self.new.lost ≡ lost_at self.old (clock_of self.new) }
         ensures live { (live : List Came) → Waits self.old live →
             Waits self.new (live_at (clock_of self.new) live) }
     {
@@ -143,9 +140,12 @@ impl Fragments {
     /// Drops what is over.
     fn drop_over(&mut self)
         ensures clock { clock_of self.new ≡ clock_of self.old }
+        ensures lost { self.new.lost
+            ≡ lost_in (Some (clock_of self.old)) self.old.lost (values self.old.waiting) }
         ensures live { (live : List Came) → Waits self.old live →
             Waits self.new (live_at (clock_of self.old) live) }
     {
+        self.lost = lost_of(&self.waiting, Some(self.clock), self.lost);
         retain_live(&mut self.waiting, self.clock);
         self.earliest = earliest_of(&self.waiting);
         self.used = self.used.min(used_of(&self.waiting));
@@ -185,33 +185,9 @@ fn join_in(
         (get key_cmp waiting.new key ≡ None) × (KEYS ≤ btree_map_len waiting.new) }
 {
     match waiting.get_mut(&key) {
-        Some(kept) => kept.join(alloc, piece, used),
-        None => begin(waiting, alloc, now, key, piece, used),
+        Some(kept) => return kept.join(alloc, piece, used),
+        None => {}
     }
-}
-
-/// Begins to keep a packet with a piece of it that comes now.
-fn begin(
-    waiting: &mut BTreeMap<Key, Waiting>,
-    alloc: Global,
-    now: u64,
-    key: Key,
-    piece: &Piece<'_>,
-    used: &mut usize,
-) -> Result<Taken, NoMemory>
-    requires { get key_cmp waiting.old key ≡ None }
-    ensures ok { IfOk result (Joins waiting.old waiting.new now key piece.now) }
-    ensures err { OnErr result ((other : Key) →
-        get key_cmp waiting.new other ≡ get key_cmp waiting.old other) }
-    ensures few { OnErr result (btree_map_len waiting.new ≡ btree_map_len waiting.old) }
-    ensures charge { OnOk result (used.old + length piece.now.bytes < 2 ^ 64 →
-        charge_of waiting.new + used.old ≤ charge_of waiting.old + used.new) }
-    ensures most { OnOk result (used.new ≤ used.old + length piece.now.bytes) }
-    ensures less { OnErr result (charge_of waiting.new ≤ charge_of waiting.old) }
-    ensures unused { OnErr result (used.new ≡ used.old) }
-    ensures full { result ≡ Ok (LeftOut TooMany) →
-        (get key_cmp waiting.new key ≡ None) × (KEYS ≤ btree_map_len waiting.new) }
-{
     if KEYS <= waiting.len() {
         return Ok(Taken::LeftOut(Refusal::TooMany));
     }
@@ -244,6 +220,17 @@ fn earliest_of(map: &BTreeMap<Key, Waiting>) -> u64
     earliest
 }
 
+/// So many, and the packets that are lost.
+fn lost_of(map: &BTreeMap<Key, Waiting>, now: Option<u64>, lost: u64) -> u64
+    ensures { result ≡ lost_in now lost (values map.now) }
+{
+    let mut count = lost;
+    for waiting in map.values() {
+        count = count.saturating_add(u64::from(waiting.is_lost(now)));
+    }
+    count
+}
+
 /// At least how many bytes are kept.
 fn used_of(map: &BTreeMap<Key, Waiting>) -> usize
     ensures { result ≡ used_in 0 (values map.now) }
@@ -263,11 +250,4 @@ fn shown(clock: u64, time: Option<u64>) -> u64
         Some(time) => clock.max(time),
         None => clock,
     }
-}
-
-/// Whether the timer of a packet with this start has run out.
-fn is_over(now: u64, start: u64) -> bool
-    ensures { result ≡ is_over now (Some start) }
-{
-    LIFETIME <= now && start <= now - LIFETIME
 }

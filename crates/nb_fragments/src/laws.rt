@@ -2,7 +2,10 @@
 ghost use Rattle.std.specs.Prelude.{◌≡◌, ◌≢◌, ◌↔◌, ◌++◌, ◌∷◌, [], List, IsTrue};
 ghost use Rattle.nb_fragments.specs.declared.key.Key.{Key};
 ghost use Rattle.nb_fragments.specs.Keys.{same_key};
+ghost use Rattle.nb_entries.specs.Cover.{CoverValue};
 ghost use Rattle.nb_fragments.specs.Live.{Came, cover_at};
+ghost use Rattle.nb_fragments.specs.Taking.{IsTaken};
+ghost use Rattle.nb_fragments.specs.declared.taken.Taken.TheVariants.{Again, Kept};
 
 /// Two keys are one exactly where their addresses, protocols and numbers are.
 #[tactic(auto, using(crate::proofs::LawLemmas::keys_decide))]
@@ -23,4 +26,11 @@ pub fn fragments_may_come_in_any_order()
     ensures { (key : Key) (live : List Came) (one other : Came) →
         cover_at key ((live ++ one ∷ []) ++ other ∷ [])
         ≡ cover_at key ((live ++ other ∷ []) ++ one ∷ []) }
+{}
+
+/// A fragment of a packet that isn't whole, and one of a packet that was whole before, are told
+/// apart.
+pub fn a_packet_is_whole_or_not()
+    ensures { (before after : CoverValue) → IsTaken before after Again →
+        IsTaken before after Kept → ⊥ }
 {}

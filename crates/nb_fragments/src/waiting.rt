@@ -1,10 +1,13 @@
 //! What is kept of a packet.
-ghost use Rattle.std.specs.Prelude.{◌≡◌, ◌≤◌, ◌<◌, ◌+◌, ◌^◌, length, IfOk, OnOk, OnErr};
+ghost use Rattle.std.specs.Prelude.{◌≡◌, ◌≤◌, ◌<◌, ◌+◌, ◌^◌, length, IfOk, OnOk, OnErr, Some};
 ghost use Rattle.nb_entries.specs.Cover.{CoverValue};
 ghost use Rattle.nb_entries.specs.declared.slot.Slot.TheVariants.{Held};
 ghost use Rattle.nb_entries.specs.CoverChange.{CoverChange, no_facts, with_piece};
+ghost use Rattle.nb_fragments.specs.Code.Kept.{is_lost, lacks};
+ghost use Rattle.nb_fragments.specs.Live.{is_over};
 ghost use Rattle.nb_fragments.specs.Taking.{IsLater, IsTaken};
 
+use crate::limits::LIFETIME;
 use crate::taken::Taken;
 use nb_entries::{Change, Cover, Piece, Slot};
 use nb_streams::{Bytes, NoMemory};
@@ -58,6 +61,33 @@ impl Waiting {
         *used = used.saturating_add(added);
         Ok(taken_of(change, &self.cover))
     }
+
+    /// Whether the packet is lost, of which some bytes didn't come, by its timer or at the end.
+    pub(crate) fn is_lost(&self, now: Option<u64>) -> bool
+        ensures { result ≡ is_lost now self.now }
+    {
+        match now {
+            Some(now) => is_over(now, self.start) && lacks(&self.cover),
+            None => lacks(&self.cover),
+        }
+    }
+}
+
+/// Whether some bytes of a packet didn't come.
+fn lacks(cover: &Cover) -> bool
+    ensures { result ≡ lacks cover.now }
+{
+    match cover {
+        Slot::Spoilt => false,
+        Slot::Held(_) => !cover.is_whole(),
+    }
+}
+
+/// Whether the timer of a packet with this start has run out.
+pub(crate) fn is_over(now: u64, start: u64) -> bool
+    ensures { result ≡ is_over now (Some start) }
+{
+    LIFETIME <= now && start <= now - LIFETIME
 }
 
 /// At most how many bytes a piece of so many adds.

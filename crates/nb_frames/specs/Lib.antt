@@ -9,3 +9,4 @@ pub mod Carried
 pub mod Contents
 pub mod Services
 pub mod Layout
+pub mod Hosts

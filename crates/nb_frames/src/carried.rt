@@ -41,7 +41,10 @@ impl Carried<'_> {
 }
 
 /// From where to where a packet of IP goes, by its own header: both are of its version.
-#[derive(Clone, Copy, Debug, PartialEq, Eq)]
+///
+/// They are ordered by the source, then by the destination; of each those of IPv4 come first (our
+/// choice).
+#[derive(Clone, Copy, Debug)]
 pub struct Hosts {
     /// Where it comes from.
     pub source: IpAddr,
@@ -50,7 +53,7 @@ pub struct Hosts {
 }
 
 /// The ports of UDP or TCP from where and to where a payload goes.
-#[derive(Clone, Copy, Debug, PartialEq, Eq)]
+#[derive(Clone, Copy, Debug, PartialEq, Eq, PartialOrd, Ord)]
 pub struct Ports {
     /// Where it comes from.
     pub source: u16,

@@ -10,6 +10,7 @@ mod ipv6_reading;
 pub mod laws;
 pub mod limits;
 mod link;
+mod order;
 mod payload;
 mod reading;
 mod reason;

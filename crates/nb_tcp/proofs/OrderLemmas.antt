@@ -1,14 +1,14 @@
 -- Orders goes on.
-use Rattle.std.proofs.Common.{ℕ, ◌≡◌, ◌≤◌, ◌<◌, ◌+◌, ◌⊎◌, inl, inr, cond, true, false, Bool, IsTrue, List, [], ◌∷◌, ◌++◌, length, length-drop, drop, take, Option, None, Some, refl, sym, ◌∙◌, ap, subst, arith}
+use Rattle.std.proofs.Common.{ℕ, ◌≡◌, ◌≤◌, ◌<◌, ◌+◌, ◌^◌, ◌⊎◌, inl, inr, cond, true, false, Bool, IsTrue, List, [], ◌∷◌, ◌++◌, length, length-drop, drop, take, Option, None, Some, refl, sym, ◌∙◌, ap, subst, arith}
 use Rattle.std.specs.Prelude.{max}
 use Rattle.std.proofs.lemmas.Bool.{cases_lt}
 use Rattle.nb_tcp.specs.Order.{Segment, StandsAt, among, or_else, is_keep_alive, sent_at, reach_after, placed_after, placed}
 use Rattle.nb_tcp.specs.Runs.{in_runs, charge_of, Puts, Contradicts}
 use Rattle.nb_tcp.specs.Kept.{Kept, Orders}
-use Rattle.nb_tcp.specs.Takes.{Takes, Differs, segment_of}
+use Rattle.nb_tcp.specs.Takes.{Takes, Differs, grown, segment_of}
 use Rattle.nb_tcp.specs.declared.taken.Refusal.{Refusal}
 use Rattle.nb_tcp.specs.declared.taken.Refusal.TheVariants.{Full}
-use Rattle.nb_tcp.specs.declared.limits.TheConstants.{ROOM, LAST, RUN_COST}
+use Rattle.nb_tcp.specs.declared.limits.TheConstants.{ROOM, LAST}
 use Rattle.nb_tcp.proofs.ByteLemmas.{or_else_none, or_else_assoc, some_stays, among_low, among_back, among_take, inside}
 
 placed_append : (reach : ℕ) (segments : List Segment) (s : Segment) (i : ℕ)
@@ -136,11 +136,11 @@ pub alive_is : (reach place on_wire numbers : ℕ) (payload : List ℕ) (answer 
 alive_is reach place on_wire numbers payload answer b says e is_b = sym
     (ap (λ n. is_keep_alive reach (record { place = place; bytes = []; numbers = n })) e) ∙ (sym says ∙ is_b)
 
-full_of : (place skip : ℕ) (rest payload : List ℕ) (charge : ℕ) → skip + length rest ≡ length payload
-    → (LAST < place + skip + length rest) ⊎ (ROOM < charge + RUN_COST + length rest)
-    → (LAST < place + length payload) ⊎ (ROOM < charge + RUN_COST + length payload)
-full_of place skip rest payload charge size (inl h) = inl (omega (arith, h, size))
-full_of place skip rest payload charge size (inr h) = inr (omega (arith, h, size))
+full_of : (place skip : ℕ) (rest payload : List ℕ) (handed charge : ℕ) → skip + length rest ≡ length payload → place < handed + 2 ^ 31
+    → (LAST < place + skip + length rest) ⊎ (ROOM < grown charge (length rest))
+    → (LAST < handed + 2 ^ 31 + length payload) ⊎ (ROOM < grown charge (length payload))
+full_of place skip rest payload handed charge size high (inl h) = inl (omega (arith, h, size, high))
+full_of place skip rest payload handed charge size high (inr h) = inr (omega (arith, h, size))
 
 pub takes_keep_alive : (old new : Kept) (sequence place on_wire : ℕ) (payload : List ℕ) → StandsAt old.first old.handed sequence place
     → is_keep_alive old.reach (segment_of place payload on_wire 0) ≡ true
@@ -158,6 +158,7 @@ takes_keep_alive old new sequence place on_wire payload stands it_is handed know
   within = omega arith;
   whole = λ _. refl;
   full = λ e. absurd (cc);
+  grows = let same = ap charge_of runs in omega (arith, same);
 }
 
 pub takes_new : (old new : Kept) (sequence place skip on_wire : ℕ) (payload rest : List ℕ) (count : ℕ) (differs : Bool)
@@ -167,12 +168,13 @@ pub takes_new : (old new : Kept) (sequence place skip on_wire : ℕ) (payload re
     → new.handed ≡ old.handed → new.known ≡ old.known → new.reach ≡ max old.reach (place + max on_wire (length payload))
     → Puts old.runs (place + skip) rest count new.runs → count ≤ length rest
     → (refusal ≡ None → count ≡ length rest)
-    → (refusal ≡ Some Full → (LAST < place + skip + length rest) ⊎ (ROOM < charge_of new.runs + RUN_COST + length rest))
+    → (refusal ≡ Some Full → (LAST < place + skip + length rest) ⊎ (ROOM < grown (charge_of old.runs) (length rest)))
+    → charge_of new.runs ≤ grown (charge_of old.runs) count
     → (IsTrue differs → Contradicts old.runs (place + skip) rest (length rest))
     → (differs ≡ false → Contradicts old.runs (place + skip) rest (length rest) → ⊥)
     → Takes old sequence payload on_wire new (record { place = place; count = skip + count; differs = differs; refusal = refusal })
 takes_new old new sequence place skip on_wire payload rest count differs refusal stands e lo fits at isnt handed known reach put within whole
-    full it_does it_does_not =
+    full grows it_does it_does_not =
     let size : skip + length rest ≡ length payload = omega (arith, ap length e, length-drop skip payload) in
     record {
       stands = stands;
@@ -187,5 +189,6 @@ takes_new old new sequence place skip on_wire payload rest count differs refusal
           (contradicts_there from old segments out place skip on_wire payload h isnt lo fits d));
       within = omega (arith, size, within);
       whole = λ n. omega (arith, size, whole n);
-      full = λ f. full_of place skip rest payload _ size (full f);
+      full = λ f. full_of place skip rest payload _ _ size stands.high (full f);
+      grows = omega (arith, size, within, grows);
     }

@@ -2,7 +2,7 @@
 -- A place counts the bytes of the direction. That of its first byte is a multiple of 2^32, so that what was sent before that byte has a
 -- place too.
 -- Our choice: where several bytes are sent for one place, the one that came first counts.
-use Rattle.std.specs.Prelude.{ℕ, ◌≡◌, ◌+◌, ◌-◌, ◌%◌, ◌^◌, ◌≤◌, ◌<◌, List, [], ◌∷◌, length, Option, None, Some, Bool, cond, ◌&&◌, nat_le, ltb, max, slice_index}
+use Rattle.std.specs.Prelude.{ℕ, ◌≡◌, ◌+◌, ◌-◌, ◌%◌, ◌^◌, ◌≤◌, ◌<◌, List, [], ◌∷◌, length, Option, None, Some, Bool, cond, ◌&&◌, ◌==◌, nat_le, ltb, max, slice_index}
 
 -- a segment: the place of its first byte, the bytes of its payload that are captured, and how many sequence numbers it takes (SEG.LEN)
 pub record Segment : Type 0 where
@@ -26,10 +26,9 @@ abbrev pub or_else : Option ℕ → Option ℕ → Option ℕ
 or_else None y = y
 or_else (Some x) y = Some x
 
--- whether a segment after others that reach to a place is a keep-alive (section 3.8.4): it takes one number at most, and ends there or
--- before
+-- whether a segment after others that reach to a place is a keep-alive (section 3.8.4): it takes one number at most, and ends there
 abbrev pub is_keep_alive : ℕ → Segment → Bool
-is_keep_alive reach s = nat_le s.numbers 1 && nat_le (s.place + s.numbers) reach
+is_keep_alive reach s = nat_le s.numbers 1 && (s.place + s.numbers == reach)
 
 -- the byte that a segment sends for a place; a keep-alive sends none
 abbrev pub sent_at : ℕ → Segment → ℕ → Option ℕ

@@ -1,5 +1,8 @@
 -- Runs: bytes that stand one after another, with the place of the first. Each byte is in one run.
-use Rattle.std.specs.Prelude.{ℕ, ◌≡◌, ◌+◌, ◌≤◌, ◌<◌, List, [], ◌∷◌, ◌++◌, length, Option, None, Some, IsSome, slice_index}
+use Rattle.std.specs.Prelude.{ℕ, ◌≡◌, ◌+◌, ◌≤◌, ◌<◌, List, [], ◌∷◌, ◌++◌, length, Option, None, Some, IsSome, slice_index, Bool, true, false}
+use Rattle.std.specs.BTreeMap.Range.{entries_between}
+use Rattle.std.specs.Ordering.{nat_cmp}
+use Rattle.std.specs.declared.ops.Bound.TheVariants.{Included, Unbounded}
 use Rattle.nb_tcp.specs.Order.{among, or_else, Contradict}
 use Rattle.nb_tcp.specs.declared.limits.TheConstants.{RUN_COST, LAST}
 
@@ -17,6 +20,15 @@ AreRuns low (run ∷ runs) = (low ≤ run.0) × (0 < length run.1) × AreRuns (r
 abbrev pub charge_of : List (ℕ × List ℕ) → ℕ
 charge_of [] = 0
 charge_of (run ∷ runs) = length run.1 + RUN_COST + charge_of runs
+
+-- the runs that begin after a place
+abbrev pub runs_after : ℕ → List (ℕ × List ℕ) → List (ℕ × List ℕ)
+runs_after at runs = entries_between nat_cmp (Included (at + 1)) Unbounded runs
+
+-- there is one of them
+abbrev pub is_any : List (ℕ × List ℕ) → Bool
+is_any [] = false
+is_any (run ∷ runs) = true
 
 -- these bytes, one or more, stand in the runs from a place on
 pub record AreKnown (runs : List (ℕ × List ℕ)) (at : ℕ) (bytes : List ℕ) : Type 0 where

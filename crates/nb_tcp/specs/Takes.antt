@@ -1,9 +1,9 @@
 -- What a segment does, and what is handed on.
-use Rattle.std.specs.Prelude.{ℕ, ◌≡◌, ◌+◌, ◌≤◌, ◌<◌, ◌⊎◌, max, length, take, ◌++◌, List, [], ◌∷◌, IsTrue, false, None, Some, IsSome}
+use Rattle.std.specs.Prelude.{ℕ, ◌≡◌, ◌+◌, ◌*◌, ◌^◌, ◌≤◌, ◌<◌, ◌⊎◌, max, length, take, ◌++◌, List, [], ◌∷◌, Bool, IsTrue, false, None, Some}
 use Rattle.nb_tcp.specs.Order.{Segment, StandsAt, placed, sent_at, reach_after, Contradict}
 use Rattle.nb_tcp.specs.declared.limits.TheConstants.{ROOM, LAST, RUN_COST}
 use Rattle.nb_tcp.specs.Kept.{Kept, Orders}
-use Rattle.nb_tcp.specs.Runs.{charge_of}
+use Rattle.nb_tcp.specs.Runs.{charge_of, is_any, runs_after}
 use Rattle.nb_tcp.specs.declared.taken.Taken.{Taken}
 use Rattle.nb_tcp.specs.declared.taken.Refusal.TheVariants.{Full}
 
@@ -15,6 +15,14 @@ segment_of place payload on_wire n = record { place = place; bytes = take n payl
 -- Differs segments known it: a byte that it sends, for a place from known on, isn't the one that the segments have there
 abbrev pub Differs : List Segment → ℕ → Segment → Type 0
 Differs segments known it = (i : ℕ) × (known ≤ i) × Contradict (placed segments i) (sent_at (reach_after 0 segments) it i)
+
+-- how much is kept at most where so much was, after so many bytes more: each may be a run
+abbrev pub grown : ℕ → ℕ → ℕ
+grown charge count = charge + count * (RUN_COST + 1)
+
+-- IsFull kept count: there may be no room for so many bytes more, or no place
+abbrev pub IsFull : Kept → ℕ → Type 0
+IsFull kept count = (LAST < kept.handed + 2 ^ 31 + count) ⊎ (ROOM < grown (charge_of kept.runs) count)
 
 -- Takes old sequence payload on_wire new taken: a segment with this number and this payload, which takes so many numbers on the wire, is
 -- taken as far as `taken` says
@@ -28,7 +36,8 @@ pub record Takes (old : Kept) (sequence : ℕ) (payload : List ℕ) (on_wire : �
       → Differs segments old.known (segment_of taken.place payload on_wire (length payload)) → ⊥
   pub within : taken.count ≤ length payload
   pub whole : taken.refusal ≡ None → taken.count ≡ length payload
-  pub full : taken.refusal ≡ Some Full → (LAST < taken.place + length payload) ⊎ (ROOM < charge_of new.runs + RUN_COST + length payload)
+  pub full : taken.refusal ≡ Some Full → IsFull old (length payload)
+  pub grows : charge_of new.runs ≤ grown (charge_of old.runs) (length payload)
 
 -- what is next in order is appended
 pub record HandsOn (old : Kept) (to : List ℕ) (new : Kept) (full : List ℕ) : Type 0 where
@@ -36,9 +45,6 @@ pub record HandsOn (old : Kept) (to : List ℕ) (new : Kept) (full : List ℕ) :
   pub appended : full ≡ to ++ handed
   pub orders : (from : ℕ) (segments : List Segment) (out : List ℕ) → Orders from old segments out → Orders from new segments (out ++ handed)
 
--- a byte waits at a place, and none that comes before it
-pub record WaitsAt (kept : Kept) (place : ℕ) : Type 0 where
-  pub after : kept.handed < place
-  pub there : (from : ℕ) (segments : List Segment) (out : List ℕ) → Orders from kept segments out → IsSome (placed segments place)
-  pub none : (from : ℕ) (segments : List Segment) (out : List ℕ) → Orders from kept segments out → placed segments kept.handed ≡ None
-      → (i : ℕ) → kept.handed ≤ i → i < place → placed segments i ≡ None
+-- bytes wait for others that come before them
+abbrev pub waits : Kept → Bool
+waits kept = is_any (runs_after kept.handed kept.runs)

@@ -1,22 +1,22 @@
 //! One direction of a connection.
-ghost use Rattle.std.specs.Prelude.{◌≡◌, ◌≤◌, ◌<◌, ◌+◌, ◌%◌, ◌^◌, ◌⊎◌, [], ℕ, List, length, min, max, IsTrue, false, IfSome, OnOk, None};
-ghost use Rattle.nb_tcp.specs.Order.{Segment, placed, is_keep_alive};
+ghost use Rattle.std.specs.Prelude.{◌≡◌, ◌≤◌, ◌<◌, ◌+◌, ◌^◌, ◌⊎◌, [], ℕ, List, OnOk, None};
+ghost use Rattle.nb_tcp.specs.Order.{Segment, StandsAt, placed, is_keep_alive};
 ghost use Rattle.nb_tcp.specs.Kept.{Orders};
 ghost use Rattle.nb_tcp.specs.Runs.{charge_of};
-ghost use Rattle.nb_tcp.specs.Takes.{Takes, HandsOn, WaitsAt};
+ghost use Rattle.nb_tcp.specs.Takes.{Takes, HandsOn, waits};
 ghost use Rattle.nb_tcp.specs.declared.limits.TheConstants.{START, LAST, ROOM, TAIL};
 
-use crate::comparing::contradicts;
-use crate::forgetting::forget;
-use crate::handing;
-use crate::limits::{LAST, START, TAIL};
-use crate::places::place_of;
-use crate::putting::put;
+use crate::front::{forget, hand_on};
+use crate::limits::{START, TAIL};
+use crate::putting::{contradicts, put};
 use crate::runs::Runs;
 use crate::taken::Taken;
 use nb_streams::NoMemory;
 use std::alloc::Global;
 use std::marker::Model;
+
+/// How many sequence numbers there are.
+const SPACE: u64 = 0x1_0000_0000;
 
 /// One direction of a TCP connection: the bytes that came and weren't handed on, and the last of
 /// those that were.
@@ -72,22 +72,6 @@ impl Direction {
         }
     }
 
-    /// Takes a SYN with this sequence number. That with which the direction began changes nothing;
-    /// with another one it begins anew, and what it kept is dropped. Answers whether it began anew.
-    pub fn synchronize(&mut self, alloc: Global, sequence: u32) -> bool
-        ensures same { result ≡ false → self.new ≡ self.old }
-        ensures begun { result ≡ false → self.old.first ≡ (sequence + 1) % 2 ^ 32 }
-        ensures anew { IsTrue result → Orders START self.new [] [] }
-        ensures first { self.new.first ≡ (sequence + 1) % 2 ^ 32 }
-    {
-        let first = sequence.wrapping_add(1);
-        if first == self.first {
-            return false;
-        }
-        *self = Direction::new(alloc, first);
-        true
-    }
-
     /// Takes a segment: its sequence number, the bytes of its payload that are captured, and how
     /// many numbers it takes on the wire, one for each byte and one for a FIN (SEG.LEN of RFC 9293
     /// section 3.4). Of a segment with a SYN the number is that after it.
@@ -98,7 +82,7 @@ impl Direction {
         ensures takes { Takes self.old sequence payload.now on_wire self.new result }
         ensures room { charge_of self.new.runs ≤ ROOM }
         ensures handed { self.new.handed ≡ self.old.handed }
-        ensures known { self.new.known ≡ self.old.known }
+        ensures known { (self.new.known ≡ self.old.known) × (self.old.known ≤ self.old.handed) }
         ensures first { self.new.first ≡ self.old.first }
     {
         let place = place_of(self.first, self.handed, sequence);
@@ -139,33 +123,9 @@ impl Direction {
         ensures known { (self.new.known ≡ self.old.known) ⊎ (TAIL < charge_of self.old.runs) }
         ensures first { self.new.first ≡ self.old.first }
     {
-        let handed = handing::hand_on(&self.runs, &mut self.handed, to);
+        let handed = hand_on(&self.runs, &mut self.handed, to);
         self.known = forget(&mut self.runs, self.known, self.handed, TAIL);
         handed
-    }
-
-    /// The place of the first byte that waits for others, where the next one in order is missing.
-    pub fn waiting_at(&self) -> Option<u64>
-        ensures some { IfSome result (WaitsAt self.now) }
-        ensures none { result ≡ None → (from : ℕ) (segments : List Segment) (out : List ℕ) →
-            Orders from self.now segments out → placed segments self.now.handed ≡ None →
-            (i : ℕ) → self.now.handed ≤ i → placed segments i ≡ None }
-    {
-        self.runs.next_after(self.handed)
-    }
-
-    /// Goes on at a place, without the bytes before it that weren't handed on. What was handed on
-    /// isn't handed on again: a place before its end changes nothing.
-    pub fn resume(&mut self, place: u64)
-        ensures anew { (from : ℕ) (segments : List Segment) (out : List ℕ) →
-            Orders from self.old segments out → Orders self.new.handed self.new segments [] }
-        ensures place { self.new.handed ≡ max self.old.handed (min place LAST) }
-        ensures room { charge_of self.new.runs ≤ charge_of self.old.runs }
-        ensures known { (self.new.known ≡ self.old.known) ⊎ (TAIL < charge_of self.old.runs) }
-        ensures first { self.new.first ≡ self.old.first }
-    {
-        self.handed = self.handed.max(place.min(LAST));
-        self.known = forget(&mut self.runs, self.known, self.handed, TAIL);
     }
 
     /// Forgets what was handed on, so that no more is kept than what waits. That a byte of it comes
@@ -187,12 +147,11 @@ impl Direction {
         self.handed
     }
 
-    /// The place from which on it is noticed that a byte comes again with another value.
-    pub fn known(&self) -> u64
-        ensures value { result ≡ self.now.known }
-        ensures last { result ≤ self.now.handed }
+    /// Whether bytes wait for others that come before them.
+    pub fn waits(&self) -> bool
+        ensures { result ≡ waits self.now }
     {
-        self.known
+        self.runs.next_after(self.handed).is_some()
     }
 
     /// How much it keeps, in bytes: those of its runs, and `RUN_COST` for each run.
@@ -213,5 +172,25 @@ fn only_keeps_alive(reach: u64, place: u64, numbers: u64) -> bool
     if numbers > 1 {
         return false;
     }
-    place + numbers <= reach
+    place + numbers == reach
+}
+
+/// The place of a sequence number, that within half the space of `next`.
+fn place_of(first: u32, next: u64, sequence: u32) -> u64
+    requires low { START ≤ next }
+    requires high { next < 2 ^ 63 }
+    ensures { StandsAt first next sequence result }
+{
+    let expected = (u64::from(first) + next) % SPACE;
+    let sequence = u64::from(sequence);
+    let ahead = if expected <= sequence {
+        sequence - expected
+    } else {
+        sequence + SPACE - expected
+    };
+    if ahead < SPACE / 2 {
+        next + ahead
+    } else {
+        next + ahead - SPACE
+    }
 }

@@ -1,5 +1,5 @@
 //! Laws of the definitions that the contracts cite. Each is proved; a call does nothing.
-ghost use Rattle.std.specs.Prelude.{◌≡◌, ◌+◌, [], ◌∷◌, Some, None};
+ghost use Rattle.std.specs.Prelude.{◌≡◌, [], ◌∷◌, Some, None};
 ghost use Rattle.nb_tcp.specs.Order.{OnePlace, StandsAt, placed, reach_after};
 ghost use Rattle.nb_tcp.specs.declared.limits.TheConstants.{START, LAST, ROOM, TAIL, RUN_COST};
 

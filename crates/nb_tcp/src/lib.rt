@@ -1,13 +1,10 @@
 //! Streams of TCP: the bytes of one direction of a connection, put in order.
 #![tactic(auto)]
 
-mod comparing;
 mod direction;
-mod forgetting;
-mod handing;
+mod front;
 pub mod laws;
 pub mod limits;
-mod places;
 mod putting;
 mod runs;
 mod taken;

@@ -1,7 +1,6 @@
 //! Runs of bytes by their places.
-ghost use Rattle.std.specs.Prelude.{◌≡◌, ◌≤◌, ◌<◌, ◌+◌, ◌^◌, ℕ, length, [], IfSome, OnOk, OnErr, None};
-ghost use Rattle.nb_tcp.specs.Order.{among};
-ghost use Rattle.nb_tcp.specs.Runs.{in_runs, charge_of, AreKnown, IsNextAfter, Puts};
+ghost use Rattle.std.specs.Prelude.{◌≡◌, ◌≤◌, ◌<◌, ◌+◌, ◌^◌, ℕ, length, [], IfSome, is_some, OnOk, OnErr, None};
+ghost use Rattle.nb_tcp.specs.Runs.{in_runs, charge_of, AreKnown, IsNextAfter, Puts, is_any, runs_after};
 ghost use Rattle.nb_tcp.specs.declared.limits.TheConstants.{LAST, RUN_COST};
 
 use crate::limits::RUN_COST;
@@ -66,6 +65,7 @@ impl Runs {
     pub(crate) fn next_after(&self, at: u64) -> Option<u64>
         requires { at + 1 < 2 ^ 64 }
         ensures some { IfSome result (IsNextAfter self.now at) }
+        ensures later { is_some result ≡ is_any (runs_after at self.now) }
         ensures none { result ≡ None → in_runs self.now at ≡ None → (i : ℕ) → at ≤ i →
             in_runs self.now i ≡ None }
     {

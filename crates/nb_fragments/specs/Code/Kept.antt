@@ -1,20 +1,21 @@
 -- What the code keeps of fragments.
-use Rattle.std.specs.Prelude.{◌≡◌, ◌≤◌, ◌<◌, ◌⊎◌, ◌+◌, ◌-◌, ◌^◌, sum_by, ℕ, List, [], ◌∷◌, map, Option, Some, None, min, not, cond}
+use Rattle.std.specs.Prelude.{◌≡◌, ◌≤◌, ◌<◌, ◌⊎◌, ◌+◌, ◌-◌, ◌^◌, ◌&&◌, sum_by, ℕ, Bool, false, is_some, List, [], ◌∷◌, length, map, Option, Some, None, min, not, cond}
 use Rattle.std.specs.BTreeMap.{BTreeMap, get, btree_map_len, values}
 use Rattle.nb_entries.specs.Cover.{CoverValue}
-use Rattle.nb_entries.specs.CoverChange.{cover_of_pieces, no_facts, with_piece}
+use Rattle.nb_entries.specs.CoverChange.{cover_of_pieces, data_of, no_facts, with_piece}
 use Rattle.nb_entries.specs.Piece.{PieceParts}
-use Rattle.nb_entries.specs.declared.slot.Slot.TheVariants.{Held}
+use Rattle.nb_entries.specs.declared.slot.Slot.TheVariants.{Held, Spoilt}
 use Rattle.nb_fragments.specs.declared.taken.Taken.{Taken}
 use Rattle.nb_fragments.specs.declared.taken.Taken.TheVariants.{LeftOut}
 use Rattle.nb_fragments.specs.declared.taken.Refusal.TheVariants.{TooMany}
-use Rattle.nb_fragments.specs.Taking.{IsTaken}
+use Rattle.nb_frames.specs.declared.carried.IpFragment.{IpFragment}
+use Rattle.nb_fragments.specs.Taking.{Answers, IsTaken, came_now, live_after}
 use Rattle.nb_fragments.specs.declared.key.Key.{Key}
 use Rattle.nb_fragments.specs.declared.limits.TheConstants.{KEYS, ROOM}
 use Rattle.nb_fragments.specs.declared.waiting.Waiting.{Waiting}
 use Rattle.nb_fragments.specs.declared.fragments.Fragments.{Fragments}
-use Rattle.nb_fragments.specs.Keys.{key_cmp, same_key}
-use Rattle.nb_fragments.specs.Live.{Came, of_key, is_over}
+use Rattle.nb_fragments.specs.Keys.{key_cmp, key_of, same_key}
+use Rattle.nb_fragments.specs.Live.{Came, clock_after, is_over, live_at, of_key}
 
 -- when the first fragment of a packet came, and what all say
 pub record Known : Type 0 where
@@ -98,3 +99,35 @@ earliest_in least (w ∷ ws) = earliest_in (min least w.start) ws
 abbrev pub used_in : ℕ → List Waiting → ℕ
 used_in used [] = used
 used_in used (w ∷ ws) = used_in (min (used + w.bytes) (2 ^ 64 - 1)) ws
+
+-- some of the bytes of a packet didn't come, of which this is known
+abbrev pub lacks : CoverValue → Bool
+lacks Spoilt = false
+lacks (Held facts) = not (is_some (data_of (Held facts)))
+
+-- a packet is lost that lacks some: its timer has run out, or it is asked for at the end
+abbrev pub is_lost : Option ℕ → Waiting → Bool
+is_lost None w = lacks w.cover
+is_lost (Some now) w = is_over now (Some w.start) && lacks w.cover
+
+-- so many, and those of these that are lost, as far as a number goes
+abbrev pub lost_in : Option ℕ → ℕ → List Waiting → ℕ
+lost_in now count [] = count
+lost_in now count (w ∷ ws) = lost_in now (min (count + cond (is_lost now w) 1 0) (2 ^ 64 - 1)) ws
+
+-- how many packets were dropped that lacked some, where the clock shows this: none is before the earliest is over
+abbrev pub lost_at : Fragments → ℕ → ℕ
+lost_at f now = cond (is_over now (Some f.earliest)) (lost_in (Some now) f.lost (values f.waiting)) f.lost
+
+-- of how many packets some fragments came, and others didn't: those that were dropped so, and those that are kept
+abbrev pub unfinished_of : Fragments → ℕ
+unfinished_of f = lost_in None f.lost (values f.waiting)
+
+-- Joined old f time new taken: a fragment of a frame of this time is taken, and this is made of it
+pub record Joined (old : Fragments) (f : IpFragment) (time : Option ℕ) (new : Fragments) (taken : Taken) : Type 0 where
+  pub clock : clock_of new ≡ clock_after (clock_of old) time
+  pub live : (live : List Came) → Waits old live
+      → Waits new (live_after taken (came_now (clock_of new) f) (live_at (clock_of new) live))
+  pub answer : (live : List Came) → Waits old live → Answers f (came_now (clock_of new) f) (live_at (clock_of new) live) taken
+  pub full : taken ≡ LeftOut TooMany → IsFull new (key_of f) (length f.payload.bytes)
+  pub lost : new.lost ≡ lost_at old (clock_of new)

@@ -7,8 +7,7 @@ use Rattle.std.proofs.lemmas.Map.Entries.{lookup-filter-values, option_filter}
 use Rattle.std.proofs.lemmas.Map.Keys.{IsDistinct-from_sorted}
 use Rattle.nb_fragments.specs.declared.key.Key.{Key}
 use Rattle.nb_fragments.specs.declared.waiting.Waiting.{Waiting}
-use Rattle.nb_fragments.specs.Keys.{key_cmp}
-use Rattle.nb_fragments.specs.KeyFacts.{key_cmp_total}
+use Rattle.nb_fragments.specs.Keys.{key_cmp, key_cmp_total}
 use Rattle.nb_fragments.specs.Live.{is_over}
 use Rattle.nb_fragments.specs.Code.Kept.{charge_of, still_kept}
 use Rattle.nb_fragments.proofs.LiveLemmas.{filter_less}

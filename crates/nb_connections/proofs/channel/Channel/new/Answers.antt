@@ -4,8 +4,9 @@ use Rattle.nb_connections.specs.Reading.{started}
 use Rattle.nb_connections.specs.Course.{Reads, begun}
 use Rattle.nb_connections.proofs.channel.Channel.new.Goals as goal
 
-pub returns-clause-follows : goal.returns-clause-follows
-returns-clause-follows c = (
+pub returns-clause-grown : goal.returns-clause-grown
+returns-clause-grown c = (
+  refl,
   Reads (started c.args.first),
   begun,
   record {

@@ -1,17 +1,25 @@
-use Rattle.std.proofs.Common.{refl, sym, subst, ◌∙◌, rules, []}
+use Rattle.std.proofs.Common.{sym, subst, ◌∙◌, rules, []}
 use Rattle.nb_session.specs.Cutting.{ArePackets, no_packet}
-use Rattle.nb_connections.proofs.ChannelLemmas.{left, follows_on}
+use Rattle.nb_connections.specs.Channels.{kept_of}
+use Rattle.nb_connections.specs.Course.{reading_at}
+use Rattle.nb_connections.specs.Reading.{part_of}
+use Rattle.nb_connections.proofs.ChannelLemmas.{Opens, follows_on, passed_answer, passes}
 use Rattle.nb_connections.proofs.channel.Channel.take.Goals as goal
 
-pub returns-then-not-reads_at-clause-follows : goal.returns-then-not-reads_at-clause-follows
-returns-then-not-reads_at-clause-follows c = λ seen follows. (
-  [],
-  subst (ArePackets []) (sym c.clear.ensures.items) no_packet,
-  left c.args.self.now c.reads_at.new.self seen _ c.reads_at.result (search rules) refl c.reads_at.ensures.reads follows,
-)
+pub returns-in-Some-clause-follows : goal.returns-in-Some-clause-follows
+returns-in-Some-clause-follows c = λ direction g.
+    let part = part_of c.args.piece.now in
+    let closed = c.in-Some.closed in (
+      passed_answer closed part,
+      subst (ArePackets []) (sym c.clear.ensures.items) no_packet,
+      (search rules, search rules, λ e. absurd (cc)),
+      passes c.args.self.now c.closed_at.new.self direction part closed
+          (λ state keeps. subst (λ r. Opens c.args.self.now c.closed_at.new.self r (reading_at state part.number)) (search rules) (c.closed_at.ensures.reads state keeps)) g,
+    )
 
 pub returns-clause-follows : goal.returns-clause-follows
-returns-clause-follows c = λ seen follows.
-    follows_on c.args.self.now c.reads_at.new.self c.read.new.self seen
-    (record { number = c.args.piece.now.number; bytes = c.args.piece.now.bytes.now; numbers = c.args.piece.now.numbers; packets = [] }) c.read.new.ready.items c.reads_at.result (search rules)
-    (c.read.ensures.first ∙ c.reads_at.ensures.first) c.reads_at.ensures.reads c.read.ensures.reads follows
+returns-clause-follows c = λ direction g.
+    let part = part_of c.args.piece.now in
+    follows_on c.args.self.now c.closed_at.new.self c.read.new.self direction part c.read.new.ready.items (kept_of c.closed_at.new.self) (kept_of c.args.self.now) c.args.room c.read.result
+    c.closed_at.ensures.kept (c.read.ensures.first ∙ c.closed_at.ensures.first)
+    (λ state keeps. subst (λ r. Opens c.args.self.now c.closed_at.new.self r (reading_at state part.number)) (search rules) (c.closed_at.ensures.reads state keeps)) c.read.ensures.reads g

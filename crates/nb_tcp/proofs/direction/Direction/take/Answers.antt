@@ -19,5 +19,5 @@ returns-clause-takes c = rw (← c.self.view_is)
     (alive_is c.self.inside.reach c.place_of-place.result c.args.on_wire c.max-numbers.result c.args.payload.now _ _
     c.only_keeps_alive-keeps_alive.ensures (omega (arith, c.max-numbers.ensures, c.from.ensures)) c.if-keeps_alive.false)
     refl refl (omega (arith, c.max-self-inside.ensures, c.max-numbers.ensures, c.from.ensures))
-    c.put-count.ensures.put c.put-count.ensures.within c.put-count.ensures.whole c.put-count.ensures.full
+    c.put-count.ensures.put c.put-count.ensures.within c.put-count.ensures.whole c.put-count.ensures.full c.put-count.ensures.grows
     c.contradicts-differs.ensures.yes c.contradicts-differs.ensures.no)

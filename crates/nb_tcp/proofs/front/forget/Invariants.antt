@@ -1,6 +1,6 @@
 use Rattle.std.proofs.Common.{◌≡◌, ◌≤◌, ◌<◌, ◌⊎◌, ℕ}
 use Rattle.nb_tcp.specs.Runs.{in_runs, charge_of}
-use Rattle.nb_tcp.proofs.forgetting.forget.Given as goal
+use Rattle.nb_tcp.proofs.front.forget.Given as goal
 
 abbrev pub invariant-runs : goal.invariant-runs
 invariant-runs l = record {

@@ -2,7 +2,7 @@ use Rattle.std.proofs.Common.{arith, sym, ◌∙◌}
 use Rattle.std.proofs.lemmas.Bool.Decides.{Decides-eqb}
 use Rattle.std.proofs.lemmas.Slice.Eq.{slice_eq-Decides}
 use Rattle.nb_tcp.proofs.PartLemmas.{agrees, disagrees}
-use Rattle.nb_tcp.proofs.comparing.agreeing.Goals as goal
+use Rattle.nb_tcp.proofs.putting.agreeing.Goals as goal
 
 pub returns-then-eq-clause-some : goal.returns-then-eq-clause-some
 returns-then-eq-clause-some c = agrees _ _ c.in-Some.known.now _ c.min-count.result c.in-Some.ensures.some

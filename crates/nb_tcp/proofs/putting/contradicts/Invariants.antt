@@ -1,6 +1,6 @@
 use Rattle.std.proofs.Common.{length, ◌-◌, ◌≤◌}
 use Rattle.nb_tcp.specs.Runs.{Contradicts}
-use Rattle.nb_tcp.proofs.comparing.contradicts.Given as goal
+use Rattle.nb_tcp.proofs.putting.contradicts.Given as goal
 
 abbrev pub invariant-parts : goal.invariant-parts
 invariant-parts l = record {

@@ -1,7 +1,7 @@
 use Rattle.std.proofs.Common.{◌≤◌, ◌-◌}
 use Rattle.nb_tcp.specs.Runs.{Moves}
 use Rattle.nb_tcp.specs.declared.limits.TheConstants.{LAST}
-use Rattle.nb_tcp.proofs.handing.hand_on.Given as goal
+use Rattle.nb_tcp.proofs.front.hand_on.Given as goal
 
 abbrev pub invariant-parts : goal.invariant-parts
 invariant-parts l = record {

@@ -1,7 +1,7 @@
 use Rattle.std.proofs.Common.{refl, rules}
 use Rattle.std.proofs.lemmas.List.{take_rest}
 use Rattle.nb_tcp.proofs.PartLemmas.{agreed_rest, contradicts_rest}
-use Rattle.nb_tcp.proofs.comparing.contradicts.Goals as goal
+use Rattle.nb_tcp.proofs.putting.contradicts.Goals as goal
 
 pub parts-preserved : goal.parts-preserved
 parts-preserved c = record {

@@ -1,0 +1,2 @@
+mod FollowLemmas
+mod TakeLemmas

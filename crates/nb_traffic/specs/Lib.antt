@@ -1,0 +1,4 @@
+pub mod Brought
+pub mod Brings
+pub mod Follows
+pub mod Examples

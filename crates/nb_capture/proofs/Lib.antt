@@ -3,3 +3,4 @@ pub mod CaptureLemmas
 pub mod LineLemmas
 pub mod LineTakingLemmas
 pub mod LinePrintingLemmas
+pub mod LineWritingLemmas

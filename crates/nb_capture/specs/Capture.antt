@@ -10,7 +10,8 @@ use Rattle.nb_capture.specs.declared.fault.LineFault.{LineFault}
 use Rattle.nb_capture.specs.declared.fault.LineFault.TheVariants.{BadLine, NoMemory}
 use Rattle.std.specs.List.{flat_map}
 use Rattle.nb_streams.specs.Ascii.{backslash}
-use Rattle.nb_streams.specs.Hexadecimal.{digits_of}
+use Rattle.nb_streams.specs.Hexadecimal.{data_text, digits_of}
+use Rattle.std.specs.Fmt.{decimal}
 use Rattle.nb_capture.specs.declared.comment_writing.Comments.{Comments}
 use Rattle.nb_capture.specs.declared.comment_writing.Comments.TheVariants.{LeftOut, Printed}
 
@@ -114,3 +115,17 @@ comment_text (first ∷ others) = flat_map byte_text (first ∷ others) ++ line_
 abbrev pub blank_text : Comments → List ℕ → List ℕ
 blank_text LeftOut line = []
 blank_text Printed line = comment_text line
+
+-- ---- how lines are written (our choice)
+
+-- packet_line port moment payload: the line of a payload, whose digits are in lower case
+abbrev pub packet_line : ℕ → ℕ → List ℕ → List ℕ
+packet_line port moment payload = decimal port ++ space ∷ (decimal moment ++ space ∷ data_text payload)
+
+-- the line of what the clock shows
+abbrev pub tick_line : ℕ → List ℕ
+tick_line now = codes "tick" ++ space ∷ decimal now
+
+-- the line of a comment, whose first byte is `#`: its bytes as they are printed
+abbrev pub comment_line : List ℕ → List ℕ
+comment_line text = flat_map byte_text text

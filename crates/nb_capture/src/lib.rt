@@ -11,6 +11,7 @@ mod line_printing;
 mod line_reading;
 mod line_room;
 mod line_taking;
+mod line_writing;
 mod options;
 
 pub use capture::capture_line;
@@ -21,4 +22,5 @@ pub use line_printing::{LineText, print_lines};
 pub use line_reading::{next_from, next_line};
 pub use line_room::LineRoom;
 pub use line_taking::{LineTaker, take_lines};
+pub use line_writing::{push_packet, push_tick};
 pub use options::CaptureOptions;

@@ -63,6 +63,7 @@ fn answer_of_stations(line: &mut Line<'_>, call: &str) {
         "next_within" => line_reading::each_line(line, true),
         "datagram" => replays::parts(line),
         "comment" => replays::comment(line),
+        "written" => replays::written(line),
         "replay" | "within" | "commented" | "over" => replays::replayed(line, call),
         _ => line.note(ExampleFault::NoSuchCall),
     }

@@ -1,7 +1,7 @@
 //! Replays of captures, and a report's text of a datagram.
 
 use crate::stations::member_of;
-use nb_capture::{CaptureOptions, Comments, push_comment};
+use nb_capture::{CaptureOptions, Comments, push_comment, push_packet, push_tick};
 use nb_datagram::Datagram;
 use nb_examples_packets::datagrams::datagram_of;
 use nb_examples_words::devices::{Conduct, Sink, Source, WILLING};
@@ -152,5 +152,22 @@ pub fn comment(line: &mut Line<'_>) {
     let comment = line.bytes();
     let mut text = String::new(line.alloc());
     given!(line, push_comment(comments, comment.as_slice(), &mut text));
+    line.say_bytes(text.as_bytes());
+}
+
+/// `written packet PORT MOMENT BYTES`, `written tick MOMENT`: the line that is written of a
+/// payload, and of what the clock shows, as bytes.
+pub fn written(line: &mut Line<'_>) {
+    let mut text = String::new(line.alloc());
+    if line.is_word("packet", "tick") {
+        let (port, moment, payload) = (line.number(), line.number(), line.bytes());
+        given!(
+            line,
+            push_packet(port, moment, payload.as_slice(), &mut text)
+        );
+    } else {
+        let moment = line.number();
+        given!(line, push_tick(moment, &mut text));
+    }
     line.say_bytes(text.as_bytes());
 }

@@ -1,4 +1,5 @@
 mod FrontLemmas
+mod ListerLemmas
 mod PrintingLemmas
 mod TimesLemmas
 mod NamingLemmas

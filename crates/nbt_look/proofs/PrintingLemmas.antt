@@ -16,7 +16,7 @@ use Rattle.nbt_look.specs.declared.printing.PrintFault.{PrintFault}
 use Rattle.nbt_look.specs.declared.printing.PrintFault.TheVariants.{Write, NoMemory}
 use Rattle.nbt_look.specs.declared.sources.Waiting.{Waiting}
 use Rattle.nbt_look.specs.declared.sources.Waiting.TheVariants.{Unread, Frame, Ended}
-use Rattle.nbt_look.specs.Listing.{Lists, ListsAll, none, nothing_listed, one_more}
+use Rattle.nbt_look.specs.Listing.{IsBeginning, Lists, ListsAll, SoFar, end_of, none, nothing_listed, one_more}
 use Rattle.nbt_look.specs.Merging.{IsNext, Merges, comes_first, first_of, with_more, without}
 use Rattle.nbt_look.specs.Merging as merging
 use Rattle.nbt_look.specs.Printing.{PrintsFrame, PrintsLast}
@@ -28,8 +28,8 @@ use Rattle.nbt_look.proofs.SourcesLemmas.{IsKnown, fill_each, nothing_yet, same_
 use Rattle.nbt_look.proofs.StepLemmas.{ShowsOf, added, held_frame, merges_filled, merges_given, shows_in}
 
 -- one frame more
-pub lists_more : (n k : ℕ) (fs : List FrameValue) (f : FrameValue) (old mid new : Listing) (text line : List ℕ) → ListsAll n fs old mid text
-    → k ≡ n + length fs → is_enough mid.asked.wanted mid.shown ≡ false → Lists k f mid new line → ListsAll n (fs ++ f ∷ []) old new (text ++ line)
+pub lists_more : (n k : ℕ) (fs : List FrameValue) (f : FrameValue) (old mid new : SoFar) (text line : List ℕ) → ListsAll n fs old mid text
+    → k ≡ n + length fs → is_enough mid.listing.asked.wanted mid.listing.shown ≡ false → Lists k f mid new line → ListsAll n (fs ++ f ∷ []) old new (text ++ line)
 lists_more _ k _ f _ mid new _ line (none n s) at few t =
     let here : k ≡ n = omega (arith, at) in
     subst (λ (b : List ℕ). ListsAll n (f ∷ []) s new b) (append-nil line)
@@ -73,7 +73,7 @@ are_given olds news frames at s time found here waits last reads i old new is_ol
 
 -- ---- the frames so far
 
-pub record IsMerging (w : Asked) (olds news : List SourceValue) (number : ℕ) (listing : Listing) (out so_far : Option (List ℕ)) (writes written : Calls) : Type 0 where
+pub record IsMerging (w : Asked) (olds news : List SourceValue) (number : ℕ) (stage : SoFar) (out so_far : Option (List ℕ)) (writes written : Calls) : Type 0 where
   pub frames : ℕ → List FrameValue
   pub merged : List FrameValue
   pub text : List ℕ
@@ -81,7 +81,9 @@ pub record IsMerging (w : Asked) (olds news : List SourceValue) (number : ℕ) (
   pub reads : AreRead olds news frames
   pub merges : MergesOn news frames merged
   pub counted : number ≡ length merged
-  pub lists : ListsAll 1 merged (nothing_listed w) listing text
+  pub start : SoFar
+  pub begins : IsBeginning w start
+  pub lists : ListsAll 1 merged start stage text
   pub printed : Appends out so_far text
   pub wrote : GrowTo writes written
 
@@ -103,9 +105,16 @@ unread_more xs ys s known all is fresh i t at =
     let grown : ys ≡ xs ++ unread known ∷ [] = is ∙ ap (λ (x : SourceValue). xs ++ x ∷ []) fresh in
     unread_at xs known i t all (sym (ap (λ (zs : List SourceValue). slice_get zs i) grown) ∙ at)
 
-pub begins : (w : Asked) (olds : List SourceValue) (listing : Listing) (out : Option (List ℕ)) (writes : Calls) → listing ≡ nothing_listed w
-    → AreUnread olds → IsMerging w olds olds 0 listing out out writes writes
-begins w olds listing out writes is fresh = rw is (record {
+-- what is asked, before the first frame
+pub asked_same : (w : Asked) (s : SoFar) → IsBeginning w s → s.listing.asked ≡ w
+asked_same w s (follows, is) = ap (λ (l : Listing). l.asked) is
+
+pub list_begun : (w : Asked) (s : SoFar) → IsBeginning w s → IsBeginning s.listing.asked s
+list_begun w s (follows, is) = (follows, is ∙ ap nothing_listed (sym (ap (λ (l : Listing). l.asked) is)))
+
+pub begins : (w : Asked) (olds : List SourceValue) (start : SoFar) (out : Option (List ℕ)) (writes : Calls) → IsBeginning w start → AreUnread olds
+    → IsMerging w olds olds 0 start out out writes writes
+begins w olds start out writes is fresh = record {
   frames = λ i. [];
   merged = [];
   text = [];
@@ -113,14 +122,16 @@ begins w olds listing out writes is fresh = rw is (record {
   reads = λ i old new is_old is_new. nothing_yet old new (fresh i old is_old) (let same : Some new ≡ Some old = sym is_new ∙ is_old in cc same);
   merges = λ more may. merging.none (with_more (held olds) more);
   counted = refl;
-  lists = none 1 (nothing_listed w);
+  start = start;
+  begins = is;
+  lists = none 1 start;
   printed = Appends-nil out;
   wrote = same_calls writes;
-})
+}
 
 -- what is known once the next frame of each file is read
-pub record IsFilled (w : Asked) (olds news : List SourceValue) (number : ℕ) (listing : Listing) (out so_far : Option (List ℕ)) (writes written : Calls) : Type 0 where
-  pub merging : IsMerging w olds news number listing out so_far writes written
+pub record IsFilled (w : Asked) (olds news : List SourceValue) (number : ℕ) (stage : SoFar) (out so_far : Option (List ℕ)) (writes written : Calls) : Type 0 where
+  pub merging : IsMerging w olds news number stage out so_far writes written
   pub known : (i : ℕ) (s : SourceValue) → slice_get news i ≡ Some s → IsKnown s.waiting
   pub shows : (i : ℕ) → ShowsOf (slice_get news i)
 
@@ -132,10 +143,10 @@ shows_at olds news frames i (Some s) long each is =
     let old = some_at olds i (omega (arith, long, slice_get_within news i s is)) in
     let known = each i old.0 s old.1 is in shows_in s.waiting old.0.calls s known.0.got (frames i) known.0.reads known.1
 
-pub filled : (w : Asked) (olds mids news : List SourceValue) (number : ℕ) (listing : Listing) (out so_far : Option (List ℕ)) (writes written : Calls)
-    → IsMerging w olds mids number listing out so_far writes written → length news ≡ length mids → FillsAll mids news
-    → IsFilled w olds news number listing out so_far writes written
-filled w olds mids news number listing out so_far writes written m long fills =
+pub filled : (w : Asked) (olds mids news : List SourceValue) (number : ℕ) (stage : SoFar) (out so_far : Option (List ℕ)) (writes written : Calls)
+    → IsMerging w olds mids number stage out so_far writes written → length news ≡ length mids → FillsAll mids news
+    → IsFilled w olds news number stage out so_far writes written
+filled w olds mids news number stage out so_far writes written m long fills =
     let each = fill_each olds mids news m.frames (sym long) m.reads fills in
     let lengths : length news ≡ length olds = long ∙ m.long in record {
       merging = record {
@@ -146,6 +157,8 @@ filled w olds mids news number listing out so_far writes written m long fills =
         reads = λ i old new is_old is_new. (each i old new is_old is_new).0;
         merges = merges_filled mids news m.frames m.merged (sym long) fills m.merges;
         counted = m.counted;
+        start = m.start;
+        begins = m.begins;
         lists = m.lists;
         printed = m.printed;
         wrote = m.wrote;
@@ -157,26 +170,26 @@ filled w olds mids news number listing out so_far writes written m long fills =
 
 -- ---- no frame comes
 
-are_listed : (w : Asked) (olds news : List SourceValue) (number : ℕ) (listing : Listing) (out so_far : Option (List ℕ)) (writes written : Calls)
-    → (m : IsMerging w olds news number listing out so_far writes written) → AreListed w olds news listing m.text m.merged
-are_listed w olds news number listing out so_far writes written m =
-    record { frames = m.frames; reads = m.reads; merges = m.merges; lists = m.lists }
+are_listed : (w : Asked) (olds news : List SourceValue) (number : ℕ) (stage : SoFar) (out so_far : Option (List ℕ)) (writes written : Calls)
+    → (m : IsMerging w olds news number stage out so_far writes written) → AreListed w olds news stage m.text m.merged
+are_listed w olds news number stage out so_far writes written m =
+    record { frames = m.frames; reads = m.reads; merges = m.merges; start = m.start; begins = m.begins; lists = m.lists }
 
 -- the list is done
-pub prints_done : (w : Asked) (olds news : List SourceValue) (number : ℕ) (listing : Listing) (out so_far : Option (List ℕ)) (writes written : Calls)
-    → (m : IsMerging w olds news number listing out so_far writes written) → IsDone news listing m.merged
-    → PrintsList w olds news out so_far writes written listing (Ok tt)
-prints_done w olds news number listing out so_far writes written m done =
-    (m.text, m.merged, are_listed w olds news number listing out so_far writes written m, done, m.printed, m.wrote)
+pub prints_done : (w : Asked) (olds news : List SourceValue) (number : ℕ) (stage : SoFar) (out so_far : Option (List ℕ)) (writes written : Calls)
+    → (m : IsMerging w olds news number stage out so_far writes written) → IsDone news stage m.merged
+    → PrintsList w olds news out so_far writes written stage (Ok tt)
+prints_done w olds news number stage out so_far writes written m done =
+    (m.text, m.merged, are_listed w olds news number stage out so_far writes written m, done, m.printed, m.wrote)
 
 -- there are enough lines, or as many frames as 64 bits count
-pub prints_enough : (w : Asked) (olds news : List SourceValue) (number : ℕ) (listing : Listing) (out so_far : Option (List ℕ)) (writes written : Calls)
-    → IsMerging w olds news number listing out so_far writes written → (is_enough listing.asked.wanted listing.shown ≡ true) ⊎ (number ≡ 2 ^ 64 - 1)
-    → PrintsList w olds news out so_far writes written listing (Ok tt)
-prints_enough w olds news number listing out so_far writes written m (inl enough) =
-    prints_done w olds news number listing out so_far writes written m (inr (inl enough))
-prints_enough w olds news number listing out so_far writes written m (inr full) =
-    prints_done w olds news number listing out so_far writes written m (inr (inr (sym m.counted ∙ full)))
+pub prints_enough : (w : Asked) (olds news : List SourceValue) (number : ℕ) (stage : SoFar) (out so_far : Option (List ℕ)) (writes written : Calls)
+    → IsMerging w olds news number stage out so_far writes written → (is_enough stage.listing.asked.wanted stage.listing.shown ≡ true) ⊎ (number ≡ 2 ^ 64 - 1)
+    → PrintsList w olds news out so_far writes written stage (Ok tt)
+prints_enough w olds news number stage out so_far writes written m (inl enough) =
+    prints_done w olds news number stage out so_far writes written m (inr (inl enough))
+prints_enough w olds news number stage out so_far writes written m (inr full) =
+    prints_done w olds news number stage out so_far writes written m (inr (inr (sym m.counted ∙ full)))
 
 ended : (w : Waiting) → IsKnown w → time_in w ≡ None → HasEnded w
 ended Unread known nothing = known
@@ -184,11 +197,11 @@ ended (Frame time) known nothing = absurd (cc nothing)
 ended (Ended ending) known nothing = tt
 
 -- all files are at their ends
-pub prints_ended : (w : Asked) (olds news : List SourceValue) (number : ℕ) (listing : Listing) (out so_far : Option (List ℕ)) (writes written : Calls)
-    → IsFilled w olds news number listing out so_far writes written → NoneFirst news
-    → PrintsList w olds news out so_far writes written listing (Ok tt)
-prints_ended w olds news number listing out so_far writes written f nothing =
-    prints_done w olds news number listing out so_far writes written f.merging
+pub prints_ended : (w : Asked) (olds news : List SourceValue) (number : ℕ) (stage : SoFar) (out so_far : Option (List ℕ)) (writes written : Calls)
+    → IsFilled w olds news number stage out so_far writes written → NoneFirst news
+    → PrintsList w olds news out so_far writes written stage (Ok tt)
+prints_ended w olds news number stage out so_far writes written f nothing =
+    prints_done w olds news number stage out so_far writes written f.merging
     (inl (λ i s is. ended s.waiting (f.known i s is) (sym (ap time_of is) ∙ nothing i)))
 
 -- ---- a frame comes
@@ -210,21 +223,23 @@ turn_of news at s shows first here =
     record { here = here; waits = waits; found = has.0; last = has.1; time = has.2; held = has.3 }
 
 -- its line is made, and is printed or not
-next_listed : (w : Asked) (olds news : List SourceValue) (number : ℕ) (old new : Listing) (line : List ℕ) (out so_far : Option (List ℕ)) (writes written : Calls) (at : ℕ) (s : SourceValue)
+next_listed : (w : Asked) (olds news : List SourceValue) (number : ℕ) (old new : SoFar) (line : List ℕ) (out so_far : Option (List ℕ)) (writes written : Calls) (at : ℕ) (s : SourceValue)
     → (f : IsFilled w olds news number old out so_far writes written) → (first : IsFirst news at) → (t : IsTurn news at s first)
-    → is_enough old.asked.wanted old.shown ≡ false → Lists (number + 1) t.found.frame old new line
+    → is_enough old.listing.asked.wanted old.listing.shown ≡ false → Lists (number + 1) t.found.frame old new line
     → AreListed w olds (set news at (given s)) new (f.merging.text ++ line) (f.merging.merged ++ t.found.frame ∷ [])
 next_listed w olds news number old new line out so_far writes written at s f first t few lists =
     let m = f.merging in record {
       frames = added at t.found.frame m.frames;
       reads = are_given olds news m.frames at s first.time t.found t.here t.waits t.last m.reads;
       merges = merges_given news m.frames m.merged at s t.found f.shows t.here first t.waits t.time t.held m.merges;
-      lists = lists_more 1 (number + 1) m.merged t.found.frame (nothing_listed w) old new m.text line m.lists (omega (arith, m.counted)) few lists;
+      start = m.start;
+      begins = m.begins;
+      lists = lists_more 1 (number + 1) m.merged t.found.frame m.start old new m.text line m.lists (omega (arith, m.counted)) few lists;
     }
 
-pub next_printed : (w : Asked) (olds news : List SourceValue) (number : ℕ) (old new : Listing) (out so_far after : Option (List ℕ)) (writes written last : Calls) (at : ℕ) (s t : SourceValue)
+pub next_printed : (w : Asked) (olds news : List SourceValue) (number : ℕ) (old new : SoFar) (out so_far after : Option (List ℕ)) (writes written last : Calls) (at : ℕ) (s t : SourceValue)
     → IsFilled w olds news number old out so_far writes written → IsFirst news at → slice_get news at ≡ Some s
-    → is_enough old.asked.wanted old.shown ≡ false → GivenAt (Ok tt) s t
+    → is_enough old.listing.asked.wanted old.listing.shown ≡ false → GivenAt (Ok tt) s t
     → ((found : Numbered) → last_of s.file ≡ Some found → PrintsFrame (number + 1) found.frame old new so_far after written last (Ok tt))
     → IsMerging w olds (set news at t) (number + 1) new out after writes last
 next_printed w olds news number old new out so_far after writes written last at s t f first here few same prints =
@@ -241,6 +256,8 @@ next_printed w olds news number old new out so_far after writes written last at 
       reads = l.reads;
       merges = l.merges;
       counted = omega (arith, m.counted, length-append m.merged (turn.found.frame ∷ []));
+      start = l.start;
+      begins = l.begins;
       lists = l.lists;
       printed = Appends-more out so_far after m.text p.0 m.printed p.2;
       wrote = grows_on writes written last m.wrote p.3;
@@ -251,9 +268,9 @@ same_set [] i x is = refl
 same_set (y ∷ xs) zero x is = let same : y ≡ x = cc is in ap (λ (z : SourceValue). z ∷ xs) (sym same)
 same_set (y ∷ xs) (suc i) x is = ap (λ (zs : List SourceValue). y ∷ zs) (same_set xs i x is)
 
-pub not_printed : (w : Asked) (olds news : List SourceValue) (number : ℕ) (old new final : Listing) (out so_far after : Option (List ℕ)) (writes written last : Calls) (at : ℕ) (s t : SourceValue) (why : PrintFault)
+pub not_printed : (w : Asked) (olds news : List SourceValue) (number : ℕ) (old new final : SoFar) (out so_far after : Option (List ℕ)) (writes written last : Calls) (at : ℕ) (s t : SourceValue) (why : PrintFault)
     → IsFilled w olds news number old out so_far writes written → IsFirst news at → slice_get news at ≡ Some s
-    → is_enough old.asked.wanted old.shown ≡ false → GivenAt (Err why) s t
+    → is_enough old.listing.asked.wanted old.listing.shown ≡ false → GivenAt (Err why) s t
     → ((found : Numbered) → last_of s.file ≡ Some found → PrintsFrame (number + 1) found.frame old new so_far after written last (Err why))
     → PrintsList w olds (set news at t) out after writes last final (Err why)
 not_printed w olds news number old new final out so_far after writes written last at s t Write f first here few same prints =
@@ -282,17 +299,18 @@ not_printed w olds news number old new final out so_far after writes written las
 
 -- ---- the counts
 
-pub counts_printed : (w : Asked) (olds news : List SourceValue) (out mid after : Option (List ℕ)) (writes written last : Calls) (new : Listing)
-    → PrintsList w olds news out mid writes written new (Ok tt) → (result : Result Unit PrintFault) → PrintsLast new mid after written last result
+pub counts_printed : (w : Asked) (olds news : List SourceValue) (out mid after : Option (List ℕ)) (writes written last : Calls) (new : SoFar) (end : Listing)
+    → PrintsList w olds news out mid writes written new (Ok tt) → end ≡ end_of new → (result : Result Unit PrintFault) → PrintsLast end mid after written last result
     → Prints w olds news out after writes last result
-counts_printed w olds news out mid after writes written last new (text, merged, listed, done, printed, wrote) (Ok unit) p =
-    (new, text, merged, listed, done, Appends-more out mid after text (last_text new) printed p)
-counts_printed w olds news out mid after writes written last new (text, merged, listed, done, printed, wrote) (Err Write) p =
-    (new, text, merged, listed, inr (done, front_after out mid after text (last_text new) printed p.0), fails_from writes written last wrote p.1)
-counts_printed w olds news out mid after writes written last new (text, merged, listed, done, printed, wrote) (Err NoMemory) p =
+counts_printed w olds news out mid after writes written last new end (text, merged, listed, done, printed, wrote) is (Ok unit) p =
+    (new, text, merged, listed, done, Appends-more out mid after text (last_text (end_of new)) printed (rw is at p))
+counts_printed w olds news out mid after writes written last new end (text, merged, listed, done, printed, wrote) is (Err Write) p =
+    let front = rw is at p.0 in
+    (new, text, merged, listed, inr (done, front_after out mid after text (last_text (end_of new)) printed front), fails_from writes written last wrote p.1)
+counts_printed w olds news out mid after writes written last new end (text, merged, listed, done, printed, wrote) is (Err NoMemory) p =
     (new, text, merged, listed, Appends-kept out mid after text printed p)
 
-pub list_unprinted : (w : Asked) (olds news : List SourceValue) (out after : Option (List ℕ)) (writes written : Calls) (new : Listing) (why : PrintFault)
+pub list_unprinted : (w : Asked) (olds news : List SourceValue) (out after : Option (List ℕ)) (writes written : Calls) (new : SoFar) (why : PrintFault)
     → PrintsList w olds news out after writes written new (Err why) → Prints w olds news out after writes written (Err why)
 list_unprinted w olds news out after writes written new Write (s, text, merged, listed, front, shows) = (s, text, merged, listed, inl front, shows)
 list_unprinted w olds news out after writes written new NoMemory p = p

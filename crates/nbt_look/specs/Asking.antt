@@ -6,7 +6,7 @@ use Rattle.std.specs.declared.net.ip_addr.IpAddr.{IpAddr}
 use Rattle.std.specs.declared.net.ip_addr.IpAddr.TheVariants.{V4, V6}
 use Rattle.nbt_look.specs.declared.asked.Asked.{Asked}
 use Rattle.nbt_look.specs.declared.asked.Form.{Form}
-use Rattle.nbt_look.specs.declared.asked.Form.TheVariants.{Lines, Colours, Objects}
+use Rattle.nbt_look.specs.declared.asked.Form.TheVariants.{Lines, Colours}
 use Rattle.nbt_look.specs.declared.asked.Times.TheVariants.{Utc}
 use Rattle.nbt_look.specs.declared.wanted.Filter.{Filter}
 use Rattle.nbt_look.specs.declared.wanted.Prefix.{Prefix}
@@ -26,9 +26,9 @@ pub data MeansPrefix (word : List ℕ) (prefix : Prefix) : Type 0 where
   first_bits : (address digits : List ℕ) → word ≡ address ++ slash ∷ digits → IsIpText address prefix.start
       → digits_value 10 (without_leading_plus digits) ≡ prefix.bits → prefix.bits ≤ width_of prefix.start → MeansPrefix word prefix
 
--- objects_asked wanted is_quiet: what is asked where packets are shown as objects, whose times are in UTC
-abbrev pub objects_asked : Filter → Bool → Asked
-objects_asked wanted is_quiet = record { wanted = wanted; times = Utc; form = Objects; has_counts = not is_quiet }
+-- in_utc wanted form is_quiet: what is asked where packets are shown in a form whose times are in UTC
+abbrev pub in_utc : Filter → Form → Bool → Asked
+in_utc wanted form is_quiet = record { wanted = wanted; times = Utc; form = form; has_counts = not is_quiet }
 
 -- form_of word is_plain: how lines are shown where `--color` has this word, on an output that is plain, or isn't
 abbrev pub form_of : List ℕ → Bool → Option Form

@@ -51,8 +51,12 @@ with_filters =
     with_rule (with_rule (with_rule (with_rule (with_rule (with_rule top_app (flag_rule (codes "quiet"))) (repeated_rule (codes "name")))
     (repeated_rule (codes "host"))) port_rule) (repeated_rule (codes "kind"))) count_rule
 
--- the whole command line: with those of how packets are shown, `--time WHEN`, `--color WHEN`, `--json`, and of files, `-r FILE` and FILE
+-- the same with how packets are shown: `--time WHEN`, `--color WHEN`, `--json`
+abbrev pub with_forms : App
+with_forms = with_rule (with_rule (with_rule with_filters (once_rule (codes "time"))) (once_rule (codes "color"))) (flag_rule (codes "json"))
+
+-- the whole command line: with `--lines`, `--bare`, `--no-ticks`, `--cut`, for the text of a capture, and the files, `-r FILE` and FILE
 abbrev pub look_app : App
 look_app =
-    with_rule (with_rule (with_rule (with_rule (with_rule with_filters (once_rule (codes "time"))) (once_rule (codes "color")))
-    (flag_rule (codes "json"))) read_rule) files_rule
+    with_rule (with_rule (with_rule (with_rule (with_rule (with_rule with_forms (flag_rule (codes "lines"))) (flag_rule (codes "bare")))
+    (flag_rule (codes "no-ticks"))) (flag_rule (codes "cut"))) read_rule) files_rule

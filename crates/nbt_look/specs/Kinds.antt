@@ -1,4 +1,4 @@
--- The kinds of packets (our choice), by the header (RFC 1002 sections 4.2.1.1 and 4.4.1) and what stands behind it.
+-- The kinds of packets (our choice), by the header (RFC 1002 sections 4.2.1.1, 4.3.1 and 4.4.1) and what stands behind it.
 use Rattle.std.specs.Prelude.{ℕ, ◌&&◌, ◌||◌, Bool, true, false, not, List, codes, nat_eq, nat_le}
 use Rattle.std.specs.List.{list_any}
 use Rattle.nb_service.specs.Header.{opcode_of, rcode_of}
@@ -6,7 +6,7 @@ use Rattle.nbt_look.specs.declared.counting.Outcome.{Outcome}
 use Rattle.nbt_look.specs.declared.counting.Outcome.TheVariants as outcome
 use Rattle.nbt_look.specs.declared.hearing.Heard.{Heard}
 use Rattle.nbt_look.specs.declared.heading.Heading.{Heading}
-use Rattle.nbt_look.specs.declared.heading.Heading.TheVariants.{Names, Datagram as Message, Nothing}
+use Rattle.nbt_look.specs.declared.heading.Heading.TheVariants.{Names, Datagram as Message, Session, Nothing}
 use Rattle.nbt_look.specs.declared.kinds.Kind.{Kind}
 use Rattle.nbt_look.specs.declared.kinds.Kind.TheVariants as kind
 use Rattle.nbt_look.specs.declared.kinds.Marks.{Marks}
@@ -31,6 +31,11 @@ kind_word kind.Error = codes "error"
 kind_word kind.Find = codes "find"
 kind_word kind.Found = codes "found"
 kind_word kind.Missing = codes "missing"
+kind_word kind.Session = codes "session"
+kind_word kind.Request = codes "request"
+kind_word kind.Retarget = codes "retarget"
+kind_word kind.Message = codes "message"
+kind_word kind.Keepalive = codes "keepalive"
 kind_word kind.Positive = codes "positive"
 kind_word kind.Negative = codes "negative"
 kind_word kind.Malformed = codes "malformed"
@@ -96,12 +101,26 @@ datagram_kind kind.Missing type is_piece = nat_eq type 0x16
 datagram_kind kind.Negative type is_piece = nat_eq type 0x16
 datagram_kind _ type is_piece = false
 
--- ---- both
+-- ---- port 139
+
+-- session_kind kind type: whether a packet of this TYPE is of this kind (4.3.1)
+abbrev pub session_kind : Kind → ℕ → Bool
+session_kind kind.Session type = true
+session_kind kind.Message type = nat_eq type 0x00
+session_kind kind.Request type = nat_eq type 0x81
+session_kind kind.Positive type = nat_eq type 0x82
+session_kind kind.Negative type = nat_eq type 0x83
+session_kind kind.Retarget type = nat_eq type 0x84
+session_kind kind.Keepalive type = nat_eq type 0x85
+session_kind _ type = false
+
+-- ---- each port
 
 -- by_heading kind heading heard: whether a packet of this header is of this kind
 abbrev pub by_heading : Kind → Heading → Heard → Bool
 by_heading k (Names word) heard = names_kind k word heard
 by_heading k (Message type is_piece) heard = datagram_kind k type is_piece
+by_heading k (Session type) heard = session_kind k type
 by_heading k Nothing heard = false
 
 -- whether a packet that counts so is malformed

@@ -1,9 +1,11 @@
 pub mod Columns
+pub mod CaptureText
 pub mod Times
 pub mod Ends
 pub mod Standing
 pub mod Wanted
 pub mod Counting
+pub mod Entries
 pub mod Listing
 pub mod Bare
 pub mod Totals

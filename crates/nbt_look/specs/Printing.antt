@@ -10,7 +10,7 @@ use Rattle.nbt_look.specs.declared.sources.Waiting.{Waiting}
 use Rattle.nbt_look.specs.declared.sources.Waiting.TheVariants.{Unread, Frame, Ended}
 use Rattle.nbt_look.specs.declared.listing.Listing.{Listing}
 use Rattle.nbt_look.specs.declared.asked.Asked.{Asked}
-use Rattle.nbt_look.specs.Listing.{Lists, ListsAll, nothing_listed}
+use Rattle.nbt_look.specs.Listing.{IsBeginning, Lists, ListsAll, SoFar, end_of}
 use Rattle.nbt_look.specs.Merging.{Merges, with_more}
 use Rattle.nbt_look.specs.Sources.{AreRead, SourceValue, given, held_of, unread}
 use Rattle.nbt_look.specs.Totals.{last_text}
@@ -42,11 +42,13 @@ MergesOn sources frames merged =
     → Merges (with_more frames (with_more (held sources) more)) merged (with_more (held sources) more)
 
 -- AreListed w olds news new text merged: these frames, the first of the merge of what was read of the files, have this text, and `new` stands
-pub record AreListed (w : Asked) (olds news : List SourceValue) (new : Listing) (text : List ℕ) (merged : List FrameValue) : Type 0 where
+pub record AreListed (w : Asked) (olds news : List SourceValue) (new : SoFar) (text : List ℕ) (merged : List FrameValue) : Type 0 where
   pub frames : ℕ → List FrameValue
   pub reads : AreRead olds news frames
   pub merges : MergesOn news frames merged
-  pub lists : ListsAll 1 merged (nothing_listed w) new text
+  pub start : SoFar
+  pub begins : IsBeginning w start
+  pub lists : ListsAll 1 merged start new text
 
 -- the file was read to its end
 abbrev pub HasEnded : Waiting → Type 0
@@ -59,8 +61,8 @@ abbrev pub AllEnded : List SourceValue → Type 0
 AllEnded sources = (i : ℕ) (s : SourceValue) → slice_get sources i ≡ Some s → HasEnded s.waiting
 
 -- IsDone news new merged: all files are at their ends, or there are as many lines as are wanted, or as many frames as 64 bits count
-abbrev pub IsDone : List SourceValue → Listing → List FrameValue → Type 0
-IsDone news new merged = AllEnded news ⊎ ((is_enough new.asked.wanted new.shown ≡ true) ⊎ (length merged ≡ 2 ^ 64 - 1))
+abbrev pub IsDone : List SourceValue → SoFar → List FrameValue → Type 0
+IsDone news new merged = AllEnded news ⊎ ((is_enough new.listing.asked.wanted new.listing.shown ≡ true) ⊎ (length merged ≡ 2 ^ 64 - 1))
 
 -- ---- one frame
 
@@ -71,7 +73,7 @@ GivenAt (Err Write) old new = new ≡ given old
 GivenAt (Err NoMemory) old new = new ≡ old
 
 -- PrintsFrame n f old new before after writes written result: what was printed of frame n
-abbrev pub PrintsFrame : ℕ → FrameValue → Listing → Listing → Option (List ℕ) → Option (List ℕ) → Calls → Calls → Result Unit PrintFault → Type 0
+abbrev pub PrintsFrame : ℕ → FrameValue → SoFar → SoFar → Option (List ℕ) → Option (List ℕ) → Calls → Calls → Result Unit PrintFault → Type 0
 PrintsFrame n f old new before after writes written (Ok done) =
     (text : List ℕ) × Lists n f old new text × Appends before after text × GrowTo writes written
 PrintsFrame n f old new before after writes written (Err Write) =
@@ -82,15 +84,15 @@ PrintsFrame n f old new before after writes written (Err NoMemory) = Keeps befor
 
 -- PrintsList w olds news before after writes written new result: what was printed of the list of these files: at a fault of a write a front
 -- of the lines of some first frames, where memory ran out the lines of some first frames
-abbrev pub PrintsList : Asked → List SourceValue → List SourceValue → Option (List ℕ) → Option (List ℕ) → Calls → Calls → Listing → Result Unit PrintFault → Type 0
+abbrev pub PrintsList : Asked → List SourceValue → List SourceValue → Option (List ℕ) → Option (List ℕ) → Calls → Calls → SoFar → Result Unit PrintFault → Type 0
 PrintsList w olds news before after writes written new (Ok done) =
     (text : List ℕ) × (merged : List FrameValue) × AreListed w olds news new text merged × IsDone news new merged
     × Appends before after text × GrowTo writes written
 PrintsList w olds news before after writes written new (Err Write) =
-    (s : Listing) × (text : List ℕ) × (merged : List FrameValue) × AreListed w olds news s text merged
+    (s : SoFar) × (text : List ℕ) × (merged : List FrameValue) × AreListed w olds news s text merged
     × AppendsFront before after text × ShowsWriteFault writes written
 PrintsList w olds news before after writes written new (Err NoMemory) =
-    (s : Listing) × (text : List ℕ) × (merged : List FrameValue) × AreListed w olds news s text merged × Appends before after text
+    (s : SoFar) × (text : List ℕ) × (merged : List FrameValue) × AreListed w olds news s text merged × Appends before after text
 
 -- ---- the list and the last lines
 
@@ -104,10 +106,11 @@ PrintsLast listing before after writes written (Err NoMemory) = Keeps before aft
 -- Prints w olds news before after writes written result: what was printed of these files
 abbrev pub Prints : Asked → List SourceValue → List SourceValue → Option (List ℕ) → Option (List ℕ) → Calls → Calls → Result Unit PrintFault → Type 0
 Prints w olds news before after writes written (Ok done) =
-    (new : Listing) × (text : List ℕ) × (merged : List FrameValue) × AreListed w olds news new text merged × IsDone news new merged
-    × Appends before after (text ++ last_text new)
+    (new : SoFar) × (text : List ℕ) × (merged : List FrameValue) × AreListed w olds news new text merged × IsDone news new merged
+    × Appends before after (text ++ last_text (end_of new))
 Prints w olds news before after writes written (Err Write) =
-    (s : Listing) × (text : List ℕ) × (merged : List FrameValue) × AreListed w olds news s text merged
-    × (AppendsFront before after text ⊎ (IsDone news s merged × AppendsFront before after (text ++ last_text s))) × ShowsWriteFault writes written
+    (s : SoFar) × (text : List ℕ) × (merged : List FrameValue) × AreListed w olds news s text merged
+    × (AppendsFront before after text ⊎ (IsDone news s merged × AppendsFront before after (text ++ last_text (end_of s))))
+    × ShowsWriteFault writes written
 Prints w olds news before after writes written (Err NoMemory) =
-    (s : Listing) × (text : List ℕ) × (merged : List FrameValue) × AreListed w olds news s text merged × Appends before after text
+    (s : SoFar) × (text : List ℕ) × (merged : List FrameValue) × AreListed w olds news s text merged × Appends before after text

@@ -7,7 +7,7 @@ use Rattle.std.specs.declared.net.ip_addr.IpAddr.{IpAddr}
 use Rattle.std.specs.declared.net.ip_addr.IpAddr.TheVariants.{V4, V6}
 use Rattle.nb_frames.specs.declared.carried.Hosts.{Hosts}
 use Rattle.nb_frames.specs.declared.carried.Ports.{Ports}
-use Rattle.nb_frames.specs.declared.carried.UdpDatagram.{UdpDatagram}
+use Rattle.nb_traffic.specs.Brought.{PacketValue}
 use Rattle.nbt_look.specs.declared.wanted.Prefix.{Prefix}
 use Rattle.nbt_look.specs.declared.wanted.Filter.{Filter}
 
@@ -43,9 +43,9 @@ is_port ports port = list_any (λ one. nat_eq one port) ports
 abbrev pub is_at : List ℕ → Ports → ℕ → Bool
 is_at ports ends service = is_any ports || (is_port ports ends.source || (is_port ports ends.destination || is_port ports service))
 
--- whether a packet of the service of this port is of the hosts and ports that are wanted
-abbrev pub wants : Filter → UdpDatagram → ℕ → Bool
-wants filter d service = is_between filter.hosts d.hosts && is_at filter.ports d.ports service
+-- whether a packet is of the hosts and ports that are wanted
+abbrev pub wants : Filter → PacketValue → Bool
+wants filter p = is_between filter.hosts p.hosts && is_at filter.ports p.ports p.service
 
 -- whether every packet is wanted
 abbrev pub wants_all : Filter → Bool

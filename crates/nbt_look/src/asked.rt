@@ -20,6 +20,19 @@ pub enum Form {
     Colours,
     /// As JSON objects.
     Objects,
+    /// As the text of a capture.
+    Capture(Layout),
+}
+
+/// What stands in the text of a capture.
+#[derive(Clone, Copy)]
+pub struct Layout {
+    /// Whether payloads come without a comment on their frame.
+    pub is_bare: bool,
+    /// Whether the ticks of a clock stand between them.
+    pub has_ticks: bool,
+    /// Whether what the snap length left of a payload comes too.
+    pub has_cut: bool,
 }
 
 /// What is asked of the list.

@@ -2,9 +2,9 @@
 ghost use Rattle.std.specs.Prelude.{◌≡◌, ◌++◌, ◌∷◌, IfSome};
 ghost use Rattle.std.specs.Net.Grammar.{IsIpText};
 ghost use Rattle.core.specs.Str.Parse.{digits_value, without_leading_plus};
-ghost use Rattle.nbt_look.specs.Asking.{MeansPrefix, form_of, objects_asked, slash, width_of};
+ghost use Rattle.nbt_look.specs.Asking.{MeansPrefix, form_of, in_utc, slash, width_of};
 
-use crate::asked::{Asked, Form, Times};
+use crate::asked::{Asked, Form, Layout, Times};
 use crate::kinds::{Kind, kind_of};
 use crate::wanted::{Filter, Prefix};
 use clap::ArgMatches;
@@ -19,16 +19,19 @@ const NO_HOST: &str = "no address: give one such as 10.0.0.5, or a network as 10
 /// Why a word of `--kind` does.
 const NO_KIND: &str = "no kind: give query, status, registration, refresh, release, wack, \
 response, conflict, datagram, unique, group, broadcast, fragment, error, find, found, missing, \
-positive, negative, malformed or left-out";
-
-/// Why one does that names a kind of port 139 alone.
-const UNREAD_KIND: &str = "a kind of packets of port 139, which aren't read yet";
+session, request, retarget, message, keepalive, positive, negative, malformed or left-out";
 
 /// Why a word of `--time` does.
 const NO_TIME: &str = "no way to show times: give start, or utc";
 
 /// Why a word of `--color` does.
 const NO_COLOUR: &str = "no way to choose colours: give auto, always, or never";
+
+/// Why the options of two forms do.
+const NO_BOTH: &str = "it goes without --json: give one of them";
+
+/// Why the options of a form do that isn't asked for.
+const NO_LINES: &str = "they go with --lines";
 
 /// Why the words of a command line ask for nothing.
 pub enum AskFault<'a> {
@@ -48,8 +51,8 @@ impl From<NoMemory> for AskFault<'_> {
 ///
 /// # Errors
 ///
-/// [`AskFault::Word`] for the first word that is no address and no prefix, no kind that is read, or
-/// none of the words of its option, and [`AskFault::NoMemory`] where memory ran out.
+/// [`AskFault::Word`] for the first word that is no address and no prefix, no kind, or none of the
+/// words of its option, and [`AskFault::NoMemory`] where memory ran out.
 pub fn asked_of<'a>(
     alloc: Global,
     matches: &ArgMatches<'a>,
@@ -71,8 +74,8 @@ pub fn asked_of<'a>(
     let Some(form) = form_of(word, is_plain) else {
         return Err(AskFault::Word(word, NO_COLOUR));
     };
-    if matches.get_flag("json") {
-        return Ok(as_objects(wanted, matches.get_flag("quiet")));
+    if let Some(other) = other_form(matches)? {
+        return Ok(in_utc(wanted, other, matches.get_flag("quiet")));
     }
     Ok(Asked {
         wanted,
@@ -82,14 +85,32 @@ pub fn asked_of<'a>(
     })
 }
 
-/// What is asked where packets are shown as objects, whose times are in UTC, with counts or not.
-fn as_objects(wanted: Filter, is_quiet: bool) -> Asked
-    ensures { result ≡ objects_asked wanted is_quiet }
+/// The form that `--json` or `--lines` asks for, where one of them is given.
+fn other_form<'a>(matches: &ArgMatches<'_>) -> Result<Option<Form>, AskFault<'a>> {
+    let layout = Layout {
+        is_bare: matches.get_flag("bare"),
+        has_ticks: !matches.get_flag("no-ticks"),
+        has_cut: matches.get_flag("cut"),
+    };
+    match (matches.get_flag("lines"), matches.get_flag("json")) {
+        (true, true) => Err(AskFault::Word("--lines", NO_BOTH)),
+        (true, false) => Ok(Some(Form::Capture(layout))),
+        (false, _) if layout.is_bare || !layout.has_ticks || layout.has_cut => {
+            Err(AskFault::Word("--bare, --no-ticks, --cut", NO_LINES))
+        }
+        (false, true) => Ok(Some(Form::Objects)),
+        (false, false) => Ok(None),
+    }
+}
+
+/// What is asked where packets are shown in a form whose times are in UTC, with counts or not.
+fn in_utc(wanted: Filter, form: Form, is_quiet: bool) -> Asked
+    ensures { result ≡ in_utc wanted form is_quiet }
 {
     Asked {
         wanted,
         times: Times::Utc,
-        form: Form::Objects,
+        form,
         has_counts: !is_quiet,
     }
 }
@@ -153,14 +174,7 @@ fn add_kinds<'a>(words: &'a str, kinds: &mut Items<Kind>) -> Result<(), AskFault
     for word in words.split(',') {
         match kind_of(word) {
             Some(kind) => kinds.push(kind)?,
-            None => {
-                return Err(match word {
-                    "session" | "request" | "retarget" | "message" | "keepalive" => {
-                        AskFault::Word(word, UNREAD_KIND)
-                    }
-                    _ => AskFault::Word(word, NO_KIND),
-                });
-            }
+            None => return Err(AskFault::Word(word, NO_KIND)),
         }
     }
     Ok(())

@@ -1,5 +1,6 @@
-//! Which packets have a line.
+//! What has a line.
 ghost use Rattle.std.specs.Prelude.{◌≡◌, IfOk};
+ghost use Rattle.nb_traffic.specs.Brought.{packet_value};
 ghost use Rattle.nbt_look.specs.Choosing.{FitsInside, IsWanted, fits};
 
 use crate::counting::Outcome;
@@ -7,27 +8,27 @@ use crate::heading::heading_of;
 use crate::hearing::hear;
 use crate::kinds::Marks;
 use crate::wanted::Filter;
-use nb_frames::UdpDatagram;
 use nb_streams::NoMemory;
+use nb_traffic::Packet;
 use std::alloc::Global;
 
-/// Whether a packet of the service of this port, which counts so, is wanted.
+/// Whether a packet is wanted that counts so, where there are so many lines.
 pub fn is_wanted(
     alloc: Global,
     filter: &Filter,
-    datagram: &UdpDatagram<'_>,
-    port: u16,
+    shown: u64,
+    packet: &Packet<'_>,
     outcome: Outcome,
 ) -> Result<bool, NoMemory>
-    ensures { IfOk result (IsWanted filter.now datagram.now port outcome) }
+    ensures { IfOk result (IsWanted filter.now shown (packet_value packet.now) outcome) }
 {
-    if !filter.wants(datagram, port) {
+    if filter.is_enough(shown) || !filter.wants(packet) {
         return Ok(false);
     }
     if !filter.looks_inside() {
         return Ok(true);
     }
-    fits_inside(alloc, filter, datagram.payload.bytes(), port, outcome)
+    fits_inside(alloc, filter, packet.bytes, packet.service, outcome)
 }
 
 /// Whether a payload that came to a port, of a packet that counts so, has a name that is wanted,

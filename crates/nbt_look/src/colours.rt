@@ -35,6 +35,6 @@ fn colour_of(outcome: Outcome, heading: Heading) -> &'static str
             Heading::Names(word) if rcode(word) == 7 => MAGENTA,
             _ => "",
         },
-        Outcome::Other => "",
+        Outcome::Without(_) => "",
     }
 }

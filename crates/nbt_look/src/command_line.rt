@@ -12,24 +12,27 @@ const VERSION: &str = "0.1.0";
 
 /// What stands after the help.
 const AFTER: &str = "\
-A line for each packet of ports 137 and 138: frame, time, from, to, what it says. The last lines \
-count frames, packets, those that are malformed, and what is left out, by reason. A port is shown \
-where it isn't the service's own, and %eth1 after a sender where a packet came by another \
-interface than the first one.
+A line for each packet of ports 137 and 138 of UDP and of port 139 of TCP: frame, time, from, to, \
+what it says; a packet of several segments or fragments of IP stands where the last of them came. \
+The last lines count frames, packets, those that are malformed, and what is left out, by reason. \
+A port is shown where it isn't the service's own, and %eth1 after a sender where a packet came by \
+another interface than the first one.
 
 Kinds of port 137: query, status (of a node), registration, refresh, release, wack, each with its \
 answers; response, any answer; conflict, which refuses a name that another station has, or says \
 that one is in conflict. Of port 138: datagram, for unique, group and broadcast; fragment, a piece \
-of one; error, find, found, missing. Of both: positive and negative, answers; malformed; left-out.
+of one; error, find, found, missing. Of port 139: session, any packet; request, retarget, message, \
+keepalive. Of all: positive and negative, answers; malformed; left-out.
 
-Live: tcpdump --immediate-mode -U -w - -i eth0 'port 137 or 138' | nbt-look -
+Live: tcpdump --immediate-mode -U -w - -i eth0 'port 137 or 138 or 139' | nbt-look -
 
 Exit status: 0 all was read; 1 the file is no capture file or ends early, and what stands before \
 is shown; 2 the command line was bad; 3 the file can't be opened, a read or a write failed, or \
 memory ran out.";
 
 /// The command line: `[--quiet] [--name TEXT].. [--host ADDRESS].. [--port PORT]..
-/// [--kind KIND,..].. [-c N] [--time WHEN] [--color WHEN] [--json] [-r FILE].. [FILE]..`.
+/// [--kind KIND,..].. [-c N] [--time WHEN] [--color WHEN] [--json] [--lines] [--bare] [--no-ticks]
+/// [--cut] [-r FILE].. [FILE]..`.
 ///
 /// # Errors
 ///
@@ -47,13 +50,17 @@ pub fn command<'a>(alloc: Global) -> Result<Command<'a>, AllocError>
     let time = count.arg(once(alloc, "time", "WHEN", TIME))?;
     let colour = time.arg(once(alloc, "color", "WHEN", COLOUR))?;
     let json = colour.arg(flag(alloc, "json", JSON))?;
-    let read = json.arg(read_option(alloc))?;
+    let lines = json.arg(flag(alloc, "lines", LINES))?;
+    let bare = lines.arg(flag(alloc, "bare", BARE))?;
+    let ticks = bare.arg(flag(alloc, "no-ticks", NO_TICKS))?;
+    let cut = ticks.arg(flag(alloc, "cut", CUT))?;
+    let read = cut.arg(read_option(alloc))?;
     let whole = read.arg(file_words(alloc))?;
     Ok(whole)
 }
 
 /// What the help says of each option.
-const QUIET: &str = "No progress, which the list has none of, and with --json no counts";
+const QUIET: &str = "No progress, which the list has none of, and with --json or --lines no counts";
 
 const NAME: &str = "Packets with this name: FRED, or 'FRED<20>' of one kind; several may be given";
 
@@ -67,6 +74,15 @@ const TIME: &str = "Times: start, in seconds since the first frame, or utc";
 const COLOUR: &str = "Colours: auto, on a terminal unless NO_COLOR is set, always, or never";
 
 const JSON: &str = "A JSON object for each packet, and one with the counts; times are in UTC";
+
+const LINES: &str = "The text of a capture, which nbt reads: a comment and a line for each packet";
+
+const BARE: &str = "With --lines, no comment before each payload";
+
+const NO_TICKS: &str = "With --lines, no ticks: for a table of all of it, by nbt save or nbt-dask";
+
+const CUT: &str =
+    "With --lines, payloads too that the snap length cut, as far as the file has them";
 
 /// The command with the texts before and after its help, and no argument.
 fn described<'a>(alloc: Global) -> Command<'a>

@@ -2,7 +2,7 @@
 ghost use Rattle.std.specs.Prelude.{◌≡◌, ◌++◌, ℕ, List, Some, OnOk, string_bytes, flat_map, option_map};
 ghost use Rattle.std.specs.Borrow.{Bor};
 ghost use Rattle.std.specs.Net.Text.{ip_text};
-ghost use Rattle.nbt_look.specs.Ends.{end_text, first_label, is_no_name, label_of, mark_in, shown_byte};
+ghost use Rattle.nbt_look.specs.Ends.{end_text, first_label, is_no_name, label_of, mark_in, shown_byte, with_port};
 
 use nb_streams::{Bytes, NoMemory, push_address, push_decimal, push_digits, push_shown};
 use std::alloc::Global;
@@ -27,6 +27,14 @@ pub fn push_end(address: IpAddr, port: u16, service: u16, text: &mut String) -> 
     if port == service {
         return push_ip(address, text);
     }
+    push_with_port(address, port, text)
+}
+
+/// Adds an address with its port behind it.
+pub fn push_with_port(address: IpAddr, port: u16, text: &mut String) -> Result<(), NoMemory>
+    ensures { OnOk result
+        (string_bytes text.new ≡ string_bytes text.old ++ with_port address port) }
+{
     match address {
         IpAddr::V4(_) => {
             push_ip(address, text)?;

@@ -6,15 +6,17 @@ ghost use Rattle.std.specs.Borrow.{Bor};
 ghost use Rattle.std.specs.Net.Text.{ip_text};
 ghost use Rattle.nb_pcap.specs.Frame.{value_of};
 ghost use Rattle.nb_telling.specs.Telling.{Text};
+ghost use Rattle.nb_traffic.specs.Brought.{packet_value};
 ghost use Rattle.nbt_look.specs.Bare.{bare_tag};
 ghost use Rattle.nbt_look.specs.Objects.{colon_byte, column_fields, end_fields, frame_fields, interface_field, link_fields, mac_field, mac_text, size_fields, time_field, vlan_fields, vlans_fields};
 
 use crate::ends::{is_no_name, push_ip, push_name};
-use crate::objects::bare;
-use nb_frames::{Mac, UdpDatagram, contents_of};
+use crate::objects::{bare, known_port};
+use nb_frames::{Mac, contents_of};
 use nb_pcap::Frame;
 use nb_streams::{NoMemory, push_digits};
 use nb_telling::Sink;
+use nb_traffic::Packet;
 use std::net::IpAddr;
 
 /// Tells the time of a frame, which is shown so, where it has one.
@@ -43,19 +45,19 @@ fn tell_address<S: Sink>(
     sink.text(bare(name), scratch.as_str())
 }
 
-/// Tells from where and to where a datagram goes.
+/// Tells from where and to where a packet goes.
 fn tell_ends<S: Sink>(
-    datagram: &UdpDatagram<'_>,
+    packet: &Packet<'_>,
     scratch: &mut String,
     sink: &mut S,
 ) -> Result<(), NoMemory>
     ensures { OnOk result
-        (S.seen sink.new ≡ fold S.after (S.seen sink.old) (end_fields datagram.now)) }
+        (S.seen sink.new ≡ fold S.after (S.seen sink.old) (end_fields (packet_value packet.now))) }
 {
-    tell_address("from", datagram.hosts.source, scratch, sink)?;
-    tell_address("to", datagram.hosts.destination, scratch, sink)?;
-    sink.number(bare("from_port"), u64::from(datagram.ports.source))?;
-    sink.number(bare("to_port"), u64::from(datagram.ports.destination))
+    tell_address("from", packet.hosts.source, scratch, sink)?;
+    tell_address("to", packet.hosts.destination, scratch, sink)?;
+    sink.known(bare("source_port"), known_port(packet.ports.source))?;
+    sink.known(bare("target_port"), known_port(packet.ports.destination))
 }
 
 /// Tells the name of an interface, where it has one.
@@ -154,16 +156,16 @@ fn tell_link<S: Sink>(frame: &Frame<'_>, scratch: &mut String, sink: &mut S) -> 
 fn tell_columns<S: Sink>(
     frame: &Frame<'_>,
     shown: &str,
-    datagram: &UdpDatagram<'_>,
+    packet: &Packet<'_>,
     scratch: &mut String,
     sink: &mut S,
 ) -> Result<(), NoMemory>
     ensures { OnOk result (S.seen sink.new ≡ fold S.after (S.seen sink.old)
-        (column_fields frame.now.number (value_of frame.now) shown.now datagram.now)) }
+        (column_fields frame.now.number (value_of frame.now) shown.now (packet_value packet.now))) }
 {
     sink.number(bare("frame"), frame.number)?;
     tell_time(frame.time, shown, sink)?;
-    tell_ends(datagram, scratch, sink)?;
+    tell_ends(packet, scratch, sink)?;
     tell_interface(frame.name, scratch, sink)
 }
 
@@ -181,14 +183,14 @@ fn tell_size<S: Sink>(frame: &Frame<'_>, sink: &mut S) -> Result<(), NoMemory>
 pub fn tell_frame<S: Sink>(
     frame: &Frame<'_>,
     shown: &str,
-    datagram: &UdpDatagram<'_>,
+    packet: &Packet<'_>,
     scratch: &mut String,
     sink: &mut S,
 ) -> Result<(), NoMemory>
     ensures { OnOk result (S.seen sink.new ≡ fold S.after (S.seen sink.old)
-        (frame_fields frame.now.number (value_of frame.now) shown.now datagram.now)) }
+        (frame_fields frame.now.number (value_of frame.now) shown.now (packet_value packet.now))) }
 {
-    tell_columns(frame, shown, datagram, scratch, sink)?;
+    tell_columns(frame, shown, packet, scratch, sink)?;
     tell_link(frame, scratch, sink)?;
     tell_size(frame, sink)
 }

@@ -4,6 +4,7 @@ ghost use Rattle.nbt_look.specs.Heading.{IsHeading, is_piece};
 
 use nb_datagram::{Front, read_front};
 use nb_service::read_header;
+use nb_session::front_header;
 
 /// What the header of a packet says of its kinds.
 #[derive(Clone, Copy)]
@@ -12,11 +13,14 @@ pub enum Heading {
     Names(u16),
     /// Of port 138: MSG_TYPE (section 4.4.1), and whether it has a piece of a datagram.
     Datagram(u8, bool),
+    /// Of port 139: TYPE (section 4.3.1).
+    Session(u8),
     /// It isn't whole.
     Nothing,
 }
 
-/// What the header of a payload that came to this port says, where it is whole.
+/// What the header of a payload that came to this port says, where it is whole. Any other port is
+/// taken for port 139.
 pub fn heading_of(port: u16, payload: &[u8]) -> Heading
     ensures { IsHeading payload.now port result }
 {
@@ -32,7 +36,10 @@ pub fn heading_of(port: u16, payload: &[u8]) -> Heading
             None => Heading::Nothing,
         };
     }
-    Heading::Nothing
+    match front_header(payload) {
+        Some(header) => Heading::Session(header.packet_type),
+        None => Heading::Nothing,
+    }
 }
 
 /// Whether a packet of port 138 that begins so has a piece of a datagram.

@@ -1,6 +1,6 @@
 //! The kinds of packets.
 ghost use Rattle.std.specs.Prelude.{◌≡◌, IfSome};
-ghost use Rattle.nbt_look.specs.Kinds.{datagram_kind, is_of, is_of_any, is_of_kinds, is_taken, kind_word, names_kind};
+ghost use Rattle.nbt_look.specs.Kinds.{datagram_kind, is_of, is_of_any, is_of_kinds, is_taken, kind_word, names_kind, session_kind};
 
 use crate::counting::Outcome;
 use crate::heading::Heading;
@@ -44,7 +44,17 @@ pub enum Kind {
     Found,
     /// A negative datagram query response (4.4.4).
     Missing,
-    /// A response that grants or finds.
+    /// Any packet of port 139 (4.3.1).
+    Session,
+    /// A session request (4.3.2).
+    Request,
+    /// A session retarget response (4.3.5).
+    Retarget,
+    /// A session message (4.3.6).
+    Message,
+    /// A session keep alive (4.3.7).
+    Keepalive,
+    /// A response that grants, finds or accepts.
     Positive,
     /// A response that refuses, or finds nothing.
     Negative,
@@ -76,6 +86,11 @@ pub fn kind_of(word: &str) -> Option<Kind>
         "find" => Kind::Find,
         "found" => Kind::Found,
         "missing" => Kind::Missing,
+        "session" => Kind::Session,
+        "request" => Kind::Request,
+        "retarget" => Kind::Retarget,
+        "message" => Kind::Message,
+        "keepalive" => Kind::Keepalive,
         "positive" => Kind::Positive,
         "negative" => Kind::Negative,
         "malformed" => Kind::Malformed,
@@ -122,6 +137,7 @@ impl Marks {
                 Heading::Datagram(message_type, is_piece) => {
                     is_datagram_kind(kind, message_type, is_piece)
                 }
+                Heading::Session(packet_type) => is_session_kind(kind, packet_type),
                 Heading::Nothing => false,
             },
         }
@@ -173,6 +189,22 @@ fn is_datagram_kind(kind: Kind, message_type: u8, is_piece: bool) -> bool
         Kind::Find => message_type == 0x14,
         Kind::Found | Kind::Positive => message_type == 0x15,
         Kind::Missing | Kind::Negative => message_type == 0x16,
+        _ => false,
+    }
+}
+
+/// Whether a packet of port 139 with this TYPE is of this kind.
+fn is_session_kind(kind: Kind, packet_type: u8) -> bool
+    ensures { result ≡ session_kind kind packet_type }
+{
+    match kind {
+        Kind::Session => true,
+        Kind::Message => packet_type == 0x00,
+        Kind::Request => packet_type == 0x81,
+        Kind::Positive => packet_type == 0x82,
+        Kind::Negative => packet_type == 0x83,
+        Kind::Retarget => packet_type == 0x84,
+        Kind::Keepalive => packet_type == 0x85,
         _ => false,
     }
 }

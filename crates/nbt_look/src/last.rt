@@ -3,38 +3,39 @@
 
 ghost use Rattle.std.specs.Prelude.{◌≡◌, IfOk, OnOk, fold};
 ghost use Rattle.nb_telling.specs.ObjectLines.{IsObject};
-ghost use Rattle.nbt_look.specs.Totals.{counts_fields, last_text, left_out_fields, packets_fields, reason_fields, reasons_fields, rest_fields};
+ghost use Rattle.nbt_look.specs.Totals.{counts_fields, lacks_fields, last_text, left_out_fields, packets_fields, reasons_fields, rest_fields, said_fields};
 
 use crate::asked::Form;
-use crate::counting::{ALL, Counts, LeftOut};
+use crate::counting::{ALL, Counts, LACKS, Lack, LeftOut};
 use crate::listing::Listing;
 use crate::objects::bare;
-use crate::totals::push_last;
+use crate::totals::{push_counts, push_last};
 use nb_streams::{Bytes, NoMemory};
 use nb_telling::{JsonRoom, JsonSink, Sink};
 use std::alloc::Global;
 
-/// Tells how many frames a reason left out, as a part of a list.
-fn tell_reason<S: Sink>(count: u64, reason: LeftOut, sink: &mut S) -> Result<(), NoMemory>
+/// Tells how often a reason left something out, as a part of a list, where it did.
+fn tell_reason<S: Sink>(counts: &Counts, reason: LeftOut, sink: &mut S) -> Result<(), NoMemory>
     ensures { OnOk result (S.seen sink.new
-        ≡ fold S.after (S.seen sink.old) (reason_fields count reason)) }
+        ≡ fold S.after (S.seen sink.old) (said_fields counts.now reason)) }
 {
+    let count = counts.of(reason);
+    if count == 0 {
+        return Ok(());
+    }
     sink.part("")?;
     sink.text(bare("reason"), reason.words())?;
     sink.number(bare("frames"), count)?;
     sink.part_ends()
 }
 
-/// Tells how many frames each of these reasons left out, where it did.
+/// Tells how often each of these reasons did, where it did.
 fn tell_reasons<S: Sink>(counts: &Counts, reasons: &[LeftOut], sink: &mut S) -> Result<(), NoMemory>
     ensures { OnOk result (S.seen sink.new
         ≡ fold S.after (S.seen sink.old) (reasons_fields counts.now reasons.now)) }
 {
     for reason in reasons {
-        let count = counts.of(*reason);
-        if count != 0 {
-            tell_reason(count, *reason, sink)?;
-        }
+        tell_reason(counts, *reason, sink)?;
     }
     Ok(())
 }
@@ -49,7 +50,7 @@ fn tell_packets<S: Sink>(counts: &Counts, sink: &mut S) -> Result<(), NoMemory>
     sink.number(bare("malformed"), counts.malformed)
 }
 
-/// Tells the list of the reasons that left frames out.
+/// Tells the list of the reasons that left something out.
 fn tell_left_out<S: Sink>(counts: &Counts, sink: &mut S) -> Result<(), NoMemory>
     ensures { OnOk result
         (S.seen sink.new ≡ fold S.after (S.seen sink.old) (left_out_fields counts.now)) }
@@ -59,12 +60,23 @@ fn tell_left_out<S: Sink>(counts: &Counts, sink: &mut S) -> Result<(), NoMemory>
     sink.ends()
 }
 
-/// Tells how many frames have no packet, and how many packets are shown.
+/// Tells how many frames without a packet have each of these.
+fn tell_lacks<S: Sink>(counts: &Counts, lacks: &[Lack], sink: &mut S) -> Result<(), NoMemory>
+    ensures { OnOk result (S.seen sink.new
+        ≡ fold S.after (S.seen sink.old) (lacks_fields counts.now lacks.now)) }
+{
+    for lack in lacks {
+        sink.number(bare(lack.member()), counts.lacking(*lack))?;
+    }
+    Ok(())
+}
+
+/// Tells how many frames have no packet, and how many lines there are.
 fn tell_rest<S: Sink>(listing: &Listing, sink: &mut S) -> Result<(), NoMemory>
     ensures { OnOk result
         (S.seen sink.new ≡ fold S.after (S.seen sink.old) (rest_fields listing.now)) }
 {
-    sink.number(bare("others"), listing.counts.others)?;
+    tell_lacks(&listing.counts, &LACKS, sink)?;
     sink.number(bare("shown"), listing.shown)
 }
 
@@ -100,6 +112,12 @@ pub fn last_of(alloc: Global, listing: &Listing) -> Result<Bytes, NoMemory>
         Form::Lines | Form::Colours => {
             let mut text = String::new(alloc);
             push_last(listing, &mut text)?;
+            Bytes::copy(alloc, text.as_bytes())
+        }
+        Form::Capture(_) => {
+            let mut text = String::new(alloc);
+            text.push_str("# ")?;
+            push_counts(listing, &mut text)?;
             Bytes::copy(alloc, text.as_bytes())
         }
         Form::Objects => {

@@ -1,5 +1,6 @@
 //! Laws of the definitions that the contracts cite. Each is proved; a call does nothing.
 ghost use Rattle.std.specs.Prelude.{◌≡◌, ◌≢◌, ◌++◌, [], ℕ, List, Some, None, true, false, length};
+ghost use Rattle.nbt_look.specs.CaptureText.{tick_text, ticks_text};
 ghost use Rattle.nb_pcap.specs.Frame.{FrameValue};
 ghost use Rattle.nbt_look.specs.Merging.{IsAscending, Merges, comes_first, of_place};
 
@@ -25,4 +26,14 @@ pub fn turns()
     ensures first_timeless { comes_first None (Some 0) ≡ true }
     ensures second_timeless { comes_first (Some 0) None ≡ false }
     ensures both_timeless { comes_first None None ≡ true }
+{}
+
+/// The ticks of a capture as text: none within a second; one for each second that begins; of a
+/// pause those of its first three seconds, and the last one.
+pub fn clock()
+    ensures within { ticks_text 7 7 ≡ [] }
+    ensures next { ticks_text 7 8 ≡ tick_text 8 }
+    ensures pause { ticks_text 7 90
+        ≡ tick_text 8 ++ (tick_text 9 ++ (tick_text 10 ++ tick_text 90)) }
+    ensures earlier { ticks_text 7 3 ≡ [] }
 {}

@@ -3,11 +3,13 @@
 
 mod asked;
 mod asking;
+mod capture_text;
 mod choosing;
 mod colours;
 mod command_line;
 mod counting;
 mod ends;
+mod entries;
 mod frame_members;
 mod heading;
 mod hearing;
@@ -22,6 +24,7 @@ mod objects;
 mod output;
 mod printing;
 mod program;
+mod progress;
 mod reporting;
 mod signature;
 mod sources;

@@ -1,12 +1,11 @@
 //! Printing the list of capture files.
-ghost use Rattle.std.specs.Prelude.{◌≡◌};
-ghost use Rattle.nbt_look.specs.Listing.{nothing_listed};
+ghost use Rattle.nbt_look.specs.Listing.{IsBeginning, so_far};
 ghost use Rattle.nbt_look.specs.Printing.{AreUnread, Prints, PrintsLast, PrintsList};
 
 use crate::asked::Asked;
 use crate::last::last_of;
-use crate::lister::Lister;
 use crate::listing::Listing;
+use crate::progress::Progress;
 use crate::sources::{Source, fill_all, first_of};
 use nb_streams::output::write_whole;
 use nb_streams::{Counted, NoMemory};
@@ -37,17 +36,18 @@ impl From<NoMemory> for PrintFault {
 fn print_list<R: Read, W: Write>(
     sources: &mut [Source<R>],
     writer: &mut Counted<W>,
-    lister: &mut Lister,
+    progress: &mut Progress,
 ) -> Result<(), PrintFault>
-    requires listed { lister.old.listing ≡ nothing_listed lister.old.listing.asked }
+    requires begins { IsBeginning progress.old.lister.listing.asked (so_far progress.old) }
     requires unread { AreUnread sources.old }
-    ensures { PrintsList lister.old.listing.asked sources.old sources.new
+    ensures { PrintsList progress.old.lister.listing.asked sources.old sources.new
         (W.contents writer.old.inner) (W.contents writer.new.inner)
-        writer.old.counts writer.new.counts lister.new.listing result }
+        writer.old.counts writer.new.counts (so_far progress.new) result }
 {
     let mut number: u64 = 0;
     'frames: loop {
-        if lister.listing.asked.wanted.is_enough(lister.listing.shown) || number == u64::MAX {
+        let listing = &progress.lister.listing;
+        if listing.asked.wanted.is_enough(listing.shown) || number == u64::MAX {
             return Ok(());
         }
         fill_all(sources);
@@ -56,7 +56,7 @@ fn print_list<R: Read, W: Write>(
         };
         number += 1;
         let source = &mut sources[at];
-        match source.print(number, lister, writer) {
+        match source.print(number, progress, writer) {
             Ok(()) => {}
             Err(fault) => return Err(fault),
         }
@@ -80,7 +80,8 @@ fn print_last<W: Write>(
 }
 
 /// Prints the list of capture files, pcap or pcapng, as one, and then the counts: a line for each
-/// packet of ports 137 and 138 that is wanted.
+/// packet of ports 137 and 138 of UDP, and of port 139 of TCP, that is wanted, and for what is left
+/// out in its place. A packet of several segments or fragments stands where the last of them came.
 ///
 /// Frames stand in the order of their times. One without a time comes first; of two with the same
 /// time that of the file which was given later, as mergecap has them. Each file keeps its own
@@ -107,10 +108,11 @@ pub fn print_files<R: Read, W: Write>(
         (W.contents writer.old.inner) (W.contents writer.new.inner)
         writer.old.counts writer.new.counts result }
 {
-    let mut lister = Lister::new(alloc, asked);
-    match print_list(sources, writer, &mut lister) {
+    let mut progress = Progress::new(alloc, asked);
+    match print_list(sources, writer, &mut progress) {
         Ok(()) => {}
         Err(fault) => return Err(fault),
     }
-    print_last(alloc, &lister.listing, writer)
+    progress.lister.listing.end(progress.traffic.unfinished());
+    print_last(alloc, &progress.lister.listing, writer)
 }

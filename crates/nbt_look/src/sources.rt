@@ -1,12 +1,13 @@
 //! The files that are read, each as far as its next frame.
 ghost use Rattle.std.specs.Prelude.{◌≡◌, ◌<◌, IfSome, MatchOption, length};
 ghost use Rattle.nb_pcap.specs.Reading.{Numbered, last_of};
+ghost use Rattle.nbt_look.specs.Listing.{so_far};
 ghost use Rattle.nbt_look.specs.Merging.{comes_first};
 ghost use Rattle.nbt_look.specs.Printing.{GivenAt, PrintsFrame};
 ghost use Rattle.nbt_look.specs.Sources.{Fills, FillsAll, IsFirst, NoneFirst, earlier_of, time_in, unread};
 
-use crate::lister::Lister;
 use crate::printing::PrintFault;
+use crate::progress::Progress;
 use nb_pcap::{FileFault, FileRoom, Frame, next_frame};
 use nb_streams::Counted;
 use nb_streams::output::write_whole;
@@ -88,20 +89,20 @@ impl<R: Read> Source<R> {
     pub fn print<W: Write>(
         &mut self,
         number: u64,
-        lister: &mut Lister,
+        progress: &mut Progress,
         writer: &mut Counted<W>,
     ) -> Result<(), PrintFault>
         ensures given { GivenAt result self.old self.new }
         ensures prints { (found : Numbered) → last_of self.old.file ≡ Some found
-            → PrintsFrame number found.frame lister.old.listing lister.new.listing
+            → PrintsFrame number found.frame (so_far progress.old) (so_far progress.new)
             (W.contents writer.old.inner) (W.contents writer.new.inner)
             writer.old.counts writer.new.counts result }
     {
         if let Some(frame) = self.file.last_frame() {
-            lister.make(&Frame { number, ..frame })?;
+            progress.take(&Frame { number, ..frame })?;
         }
         self.waiting = Waiting::Unread;
-        match write_whole(writer, lister.printed()) {
+        match write_whole(writer, progress.lister.printed()) {
             Ok(()) => Ok(()),
             Err(_) => Err(PrintFault::Write),
         }

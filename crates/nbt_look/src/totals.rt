@@ -1,13 +1,14 @@
 //! The last lines, which say how many frames there are, and what they have.
-ghost use Rattle.std.specs.Prelude.{◌≡◌, ◌++◌, false, OnOk, string_bytes};
-ghost use Rattle.nbt_look.specs.Totals.{last_lines, left_out_text, packets_text, plural_text, reason_text, reasons_text, shown_text, without_text};
+ghost use Rattle.std.specs.Prelude.{◌≡◌, ◌++◌, ◌||◌, false, not, nat_eq, IfOk, OnOk, string_bytes};
+ghost use Rattle.nbt_look.specs.Counting.{count_of};
+ghost use Rattle.nbt_look.specs.Totals.{counts_line, lack_text, lacking_text, lacks_text, last_lines, left_out_text, packets_text, plural_text, reasons_text, said_text, shown_text, without_text};
 
-use crate::counting::{ALL, Counts, LeftOut};
+use crate::counting::{ALL, Counts, LACKS, Lack, LeftOut};
 use crate::listing::Listing;
 use nb_streams::{NoMemory, push_decimal};
 
 /// Adds so many of something, whose plural has an s.
-fn push_plural(count: u64, what: &str, text: &mut String) -> Result<(), NoMemory>
+pub fn push_plural(count: u64, what: &str, text: &mut String) -> Result<(), NoMemory>
     ensures { OnOk result
         (string_bytes text.new ≡ string_bytes text.old ++ plural_text count what.now) }
 {
@@ -20,30 +21,38 @@ fn push_plural(count: u64, what: &str, text: &mut String) -> Result<(), NoMemory
     Ok(())
 }
 
-/// Adds how many frames a reason left out, where others stand before it or none.
-fn push_reason(begun: bool, count: u64, reason: LeftOut, text: &mut String) -> Result<(), NoMemory>
-    ensures { OnOk result (string_bytes text.new
-        ≡ string_bytes text.old ++ reason_text begun count reason) }
+/// Adds how often a reason left something out, where it did, and others stand before it or none;
+/// and answers whether some stand there now.
+fn push_reason(
+    counts: &Counts,
+    begun: bool,
+    reason: LeftOut,
+    text: &mut String,
+) -> Result<bool, NoMemory>
+    ensures added { OnOk result (string_bytes text.new
+        ≡ string_bytes text.old ++ said_text counts.now begun reason) }
+    ensures some { IfOk result (λ some.
+        some ≡ (not (nat_eq (count_of reason counts.now) 0) || begun)) }
 {
+    let count = counts.of(reason);
+    if count == 0 {
+        return Ok(begun);
+    }
     text.push_str(if begun { ", " } else { ": " })?;
     push_decimal(count, text)?;
     text.push_str(" ")?;
     text.push_str(reason.words())?;
-    Ok(())
+    Ok(true)
 }
 
-/// Adds how many frames each of these reasons left out, where it did.
+/// Adds how often each of these reasons did, where it did.
 fn push_reasons(counts: &Counts, reasons: &[LeftOut], text: &mut String) -> Result<(), NoMemory>
     ensures { OnOk result (string_bytes text.new
         ≡ string_bytes text.old ++ reasons_text counts.now false reasons.now) }
 {
     let mut begun = false;
     for reason in reasons {
-        let count = counts.of(*reason);
-        if count != 0 {
-            push_reason(begun, count, *reason, text)?;
-            begun = true;
-        }
+        begun = push_reason(counts, begun, *reason, text)?;
     }
     Ok(())
 }
@@ -86,23 +95,68 @@ fn push_shown_count(all: bool, shown: u64, text: &mut String) -> Result<(), NoMe
     Ok(())
 }
 
-/// Adds how many frames have no packet, where others have and all are wanted, or that none is of
-/// the ports.
+/// Adds how many frames without a packet have this, where others stand before it or none.
+fn push_lack(begun: bool, count: u64, lack: Lack, text: &mut String) -> Result<(), NoMemory>
+    ensures { OnOk result (string_bytes text.new
+        ≡ string_bytes text.old ++ lack_text begun count lack) }
+{
+    text.push_str(if begun { ", " } else { ": " })?;
+    push_plural(count, lack.noun(), text)?;
+    text.push_str(lack.rest())?;
+    Ok(())
+}
+
+/// Adds how many have each of these, where some have.
+fn push_lacks(counts: &Counts, lacks: &[Lack], text: &mut String) -> Result<(), NoMemory>
+    ensures { OnOk result (string_bytes text.new
+        ≡ string_bytes text.old ++ lacks_text counts.now false lacks.now) }
+{
+    let mut begun = false;
+    for lack in lacks {
+        let count = counts.lacking(*lack);
+        if count != 0 {
+            push_lack(begun, count, *lack, text)?;
+            begun = true;
+        }
+    }
+    Ok(())
+}
+
+/// Adds how many frames have neither a packet nor something that is left out, and what they have.
+fn push_lacking(counts: &Counts, text: &mut String) -> Result<(), NoMemory>
+    ensures { OnOk result
+        (string_bytes text.new ≡ string_bytes text.old ++ lacking_text counts.now) }
+{
+    push_plural(counts.without, "frame", text)?;
+    text.push_str(" without a packet")?;
+    push_lacks(counts, &LACKS, text)?;
+    text.push_str("\n")?;
+    Ok(())
+}
+
+/// Adds that no frame is of the ports; else how many have no packet, where all packets are wanted.
 fn push_without(all: bool, counts: &Counts, text: &mut String) -> Result<(), NoMemory>
     ensures { OnOk result
         (string_bytes text.new ≡ string_bytes text.old ++ without_text all counts.now) }
 {
-    if counts.has_none() {
+    if counts.of_ports == 0 {
         text.push_str("no frame has UDP of port 137 or 138, or TCP of port 139\n")?;
         return Ok(());
     }
-    if all && counts.packets != 0 && counts.others != 0 {
-        push_plural(counts.others, "frame", text)?;
-        text.push_str(" without a packet: ")?;
-        push_plural(counts.others, "frame", text)?;
-        text.push_str(" of other ports and protocols\n")?;
+    if all && counts.without != 0 {
+        return push_lacking(counts, text);
     }
     Ok(())
+}
+
+/// Adds the line of counts.
+pub fn push_counts(listing: &Listing, text: &mut String) -> Result<(), NoMemory>
+    ensures { OnOk result
+        (string_bytes text.new ≡ string_bytes text.old ++ counts_line listing.now) }
+{
+    push_packets(&listing.counts, text)?;
+    push_left_out(&listing.counts, text)?;
+    push_shown_count(listing.asked.wanted.wants_all(), listing.shown, text)
 }
 
 /// Adds the last lines.
@@ -110,9 +164,6 @@ pub fn push_last(listing: &Listing, text: &mut String) -> Result<(), NoMemory>
     ensures { OnOk result
         (string_bytes text.new ≡ string_bytes text.old ++ last_lines listing.now) }
 {
-    let all = listing.asked.wanted.wants_all();
-    push_packets(&listing.counts, text)?;
-    push_left_out(&listing.counts, text)?;
-    push_shown_count(all, listing.shown, text)?;
-    push_without(all, &listing.counts, text)
+    push_counts(listing, text)?;
+    push_without(listing.asked.wanted.wants_all(), &listing.counts, text)
 }

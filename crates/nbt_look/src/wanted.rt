@@ -1,10 +1,12 @@
 //! Which packets of the list are wanted.
 ghost use Rattle.std.specs.Prelude.{◌≡◌};
+ghost use Rattle.nb_traffic.specs.Brought.{packet_value};
 ghost use Rattle.nbt_look.specs.Wanted.{begins_as, front_bits, is_at, is_between, is_enough, is_of, looks_inside, wants, wants_all};
 
 use crate::kinds::Kind;
-use nb_frames::{Hosts, Ports, UdpDatagram};
+use nb_frames::{Hosts, Ports};
 use nb_streams::{Bytes, Items};
+use nb_traffic::Packet;
 use std::net::IpAddr;
 
 /// Addresses that begin with the same bits.
@@ -32,12 +34,12 @@ pub struct Filter {
 }
 
 impl Filter {
-    /// Whether a packet of the service of this port is of the hosts and ports that are wanted.
-    pub fn wants(&self, datagram: &UdpDatagram<'_>, service: u16) -> bool
-        ensures { result ≡ wants self.now datagram.now service }
+    /// Whether a packet is of the hosts and ports that are wanted.
+    pub fn wants(&self, packet: &Packet<'_>) -> bool
+        ensures { result ≡ wants self.now (packet_value packet.now) }
     {
-        is_between(self.hosts.as_slice(), datagram.hosts)
-            && is_at(self.ports.as_slice(), datagram.ports, service)
+        is_between(self.hosts.as_slice(), packet.hosts)
+            && is_at(self.ports.as_slice(), packet.ports, packet.service)
     }
 
     /// Whether every packet is wanted.
@@ -57,7 +59,7 @@ impl Filter {
         !self.names.as_slice().is_empty() || !self.kinds.as_slice().is_empty()
     }
 
-    /// Whether so many packets are as many as are wanted.
+    /// Whether so many lines are as many as are wanted.
     pub fn is_enough(&self, shown: u64) -> bool
         ensures { result ≡ is_enough self.now shown }
     {

@@ -15,5 +15,9 @@ returns c =
     let time = c.in_ok-time.ensures.shape c.once.ensures.local ∙ ap₂ with_rule count c.once.ensures.rule in
     let colour = c.in_ok-colour.ensures.shape c.once-2.ensures.local ∙ ap₂ with_rule time c.once-2.ensures.rule in
     let json = c.in_ok-json.ensures.shape c.flag-2.ensures.local ∙ ap₂ with_rule colour c.flag-2.ensures.rule in
-    let read = c.in_ok-read.ensures.shape c.read_option.ensures.local ∙ ap₂ with_rule json c.read_option.ensures.rule in
+    let lines = c.in_ok-lines.ensures.shape c.flag-3.ensures.local ∙ ap₂ with_rule json c.flag-3.ensures.rule in
+    let bare = c.in_ok-bare.ensures.shape c.flag-4.ensures.local ∙ ap₂ with_rule lines c.flag-4.ensures.rule in
+    let ticks = c.in_ok-ticks.ensures.shape c.flag-5.ensures.local ∙ ap₂ with_rule bare c.flag-5.ensures.rule in
+    let cut = c.in_ok-cut.ensures.shape c.flag-6.ensures.local ∙ ap₂ with_rule ticks c.flag-6.ensures.rule in
+    let read = c.in_ok-read.ensures.shape c.read_option.ensures.local ∙ ap₂ with_rule cut c.read_option.ensures.rule in
     c.in_ok-whole.ensures.shape c.file_words.ensures.local ∙ ap₂ with_rule read c.file_words.ensures.rule

@@ -1,15 +1,12 @@
-use Rattle.std.proofs.Common.{◌++◌, ◌∙◌, ap, append_assoc, codes, false, string_bytes}
+use Rattle.std.proofs.Common.{◌≡◌, ◌++◌, ◌∙◌, ℕ, List, ap, append_assoc}
 use Rattle.std.proofs.lemmas.Result.{on_ok_weaker}
-use Rattle.std.specs.Fmt.{decimal}
-use Rattle.nbt_look.specs.Totals.{all_reasons, reasons_text}
 use Rattle.nbt_look.proofs.totals.push_left_out.Goals as goal
+
+-- three texts, one after another
+joined : (t0 t1 t2 t3 a b c : List ℕ) → t1 ≡ t0 ++ a → t2 ≡ t1 ++ b → t3 ≡ t2 ++ c → t3 ≡ t0 ++ (a ++ (b ++ c))
+joined t0 t1 t2 t3 a b c first second third =
+    third ∙ ap (λ t. t ++ c) (second ∙ ap (λ t. t ++ b) first) ∙ append_assoc (t0 ++ a) b c ∙ append_assoc t0 a (b ++ c)
 
 pub returns : goal.returns
 returns c =
-    let old = string_bytes c.args.text.now in
-    let count = decimal c.args.counts.now.left_out in
-    let reasons = reasons_text c.args.counts.now false all_reasons in
-    on_ok_weaker c.push_reasons.result
-    (λ is. is ∙ ap (λ t. t ++ reasons) (c.in_ok-push_str.ensures.bytes ∙ ap (λ t. t ++ codes " left out") c.in_ok-push_decimal.ensures.added)
-    ∙ append_assoc (old ++ count) (codes " left out") reasons ∙ append_assoc old count (codes " left out" ++ reasons))
-    c.push_reasons.ensures
+    on_ok_weaker c.push_reasons.result (joined _ _ _ _ _ _ _ c.in_ok-push_decimal.ensures.added c.in_ok-push_str.ensures.bytes) c.push_reasons.ensures

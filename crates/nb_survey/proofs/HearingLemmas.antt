@@ -1,5 +1,5 @@
 -- What is heard of a packet, item by item.
-use Rattle.std.proofs.Common.{ℕ, zero, suc, ◌≡◌, ◌∙◌, refl, sym, ap, List, [], ◌∷◌, ◌++◌, length, slice_index, Bool, true, false, ◌==◌, ◌&&◌, ◌*◌, ◌/◌, ◌%◌, ◌<◌, Option, Some, None, map, take, ◌+◌, append-nil, append_assoc, arith}
+use Rattle.std.proofs.Common.{ℕ, zero, suc, ◌≡◌, ◌∙◌, refl, sym, ap, List, [], ◌∷◌, ◌++◌, length, slice_index, get_or, Bool, true, false, ◌==◌, ◌&&◌, ◌*◌, ◌/◌, ◌%◌, ◌<◌, Option, Some, None, map, take, ◌+◌, append-nil, append_assoc, arith}
 use Rattle.std.proofs.lemmas.List.{map-append, take_more}
 use Rattle.std.proofs.lemmas.List.Elements.{filter_map-append}
 use Rattle.std.proofs.lemmas.Option.{get_or_from_slice_get, slice_get_within}
@@ -26,6 +26,12 @@ or_assoc (Some x) b c = refl
 pub first_of-more : {A B : Type 0} (f : A → Option B) (xs : List A) (x : A) → first_of f (xs ++ x ∷ []) ≡ option_or (first_of f xs) (f x)
 first_of-more f [] x = or_none (f x)
 first_of-more f (y ∷ ys) x = ap (option_or (f y)) (first_of-more f ys x) ∙ or_assoc (f y) (first_of f ys) (f x)
+
+-- what the first of these has, after one more
+pub first_of-turn : {A B : Type 0} (f : A → Option B) (xs : List A) (i : ℕ) (d : A) (o : Option B) → o ≡ first_of f (take i xs) → i < length xs
+    → option_or o (f (get_or xs i d)) ≡ first_of f (take (i + 1) xs)
+first_of-turn f xs i d o e h =
+    ap (λ x. option_or x (f (get_or xs i d))) e ∙ sym (ap (first_of f) (take_more xs i d h) ∙ first_of-more f (take i xs) (get_or xs i d))
 
 length-letters : (bytes : List ℕ) → length (letters bytes) ≡ 2 * length bytes
 length-letters [] = refl

@@ -1,5 +1,5 @@
 -- A row, after one more word.
-use Rattle.std.proofs.Common.{ℕ, ◌≡◌, ◌==◌, ◌+◌, ◌-◌, ◌^◌, min, refl, ◌∙◌, ap, List, [], ◌∷◌, ◌++◌, Bool, true, false, cond, filter, filter_map, append-nil, arith, Option, Some, None, unwrap_or}
+use Rattle.std.proofs.Common.{ℕ, ◌≡◌, ◌==◌, ◌+◌, ◌-◌, ◌^◌, min, refl, ◌∙◌, ap, List, [], ◌∷◌, ◌++◌, Bool, true, false, cond, filter, filter_map, append-nil, arith, Option, Some, None, unwrap_or, ◌⊎◌, inl, inr, ⊎_elim}
 use Rattle.std.specs.List.{last_or, cons_option}
 use Rattle.std.specs.Option.{option_or}
 use Rattle.std.proofs.lemmas.List.Elements.{filter-append, filter_map-append}
@@ -7,7 +7,7 @@ use Rattle.nb_survey.specs.declared.heard.Said.{Said}
 use Rattle.nb_survey.specs.declared.key.Key.{Key}
 use Rattle.nb_survey.specs.Code.Steps.{after, counted, grown, is_last}
 use Rattle.nb_survey.specs.Keys.{has_key}
-use Rattle.nb_survey.specs.Rows.{claimed_of, frame_where, granted_of, is_claim, latest_of, mac_of, others_of, own_of, packets, refuses, row_at, row_from, row_of, tally}
+use Rattle.nb_survey.specs.Rows.{claimed_of, frame_where, granted_of, is_claim, IsWitnessed, latest_of, mac_of, others_of, own_of, packets, refuses, row_at, row_from, row_of, tally}
 use Rattle.nb_survey.specs.Words.{is_own}
 
 last_one_more : {A : Type 0} (o : Option A) (xs : List A) (x : A) → last_or o (xs ++ x ∷ []) ≡ Some x
@@ -78,3 +78,22 @@ pub row_at-more : (key_of : Said → Option Key) (key : Key) (said : List Said) 
     → row_at key_of key (said ++ s ∷ []) ≡ cond (has_key key (key_of s)) (Some (grown (row_at key_of key said) s)) (row_at key_of key said)
 row_at-more key_of key said s =
     ap row_of (filter-append (λ x. has_key key (key_of x)) said (s ∷ [])) ∙ grown_by (has_key key (key_of s)) (filter (λ x. has_key key (key_of x)) said) s
+
+-- ---- what a row has is a word's
+
+witness_past : {A : Type 0} (f : Said → Option A) (s : Said) (xs : List Said) (x : A) → IsWitnessed f xs x → IsWitnessed f (s ∷ xs) x
+witness_past f s xs x w = record { before = s ∷ w.before; word = w.word; later = w.later; stands = ap (λ ys. s ∷ ys) w.stands; has = w.has }
+
+witness_by : {A : Type 0} (f : Said → Option A) (s : Said) (xs : List Said) (o : Option A) (x : A) (v : Option A) → f s ≡ v
+    → ((p : Option A) → last_or p (filter_map f xs) ≡ Some x → (p ≡ Some x) ⊎ IsWitnessed f xs x)
+    → last_or o (cons_option v (filter_map f xs)) ≡ Some x → (o ≡ Some x) ⊎ IsWitnessed f (s ∷ xs) x
+witness_by f s xs o x None e rest is = ⊎_elim (λ p. inl p) (λ w. inr (witness_past f s xs x w)) (rest o is)
+witness_by f s xs o x (Some y) e rest is =
+    ⊎_elim (λ p. inr (record { before = []; word = s; later = xs; stands = refl; has = e ∙ p })) (λ w. inr (witness_past f s xs x w)) (rest (Some y) is)
+
+witness_of : {A : Type 0} (f : Said → Option A) (xs : List Said) (x : A) (o : Option A) → last_or o (filter_map f xs) ≡ Some x → (o ≡ Some x) ⊎ IsWitnessed f xs x
+witness_of f [] x o is = inl is
+witness_of f (s ∷ xs) x o is = witness_by f s xs o x (f s) refl (witness_of f xs x) is
+
+pub witnessed : {A : Type 0} (f : Said → Option A) (xs : List Said) (x : A) → latest_of f xs ≡ Some x → IsWitnessed f xs x
+witnessed f xs x is = ⊎_elim (λ p. absurd (cc p)) (λ w. w) (witness_of f xs x None is)

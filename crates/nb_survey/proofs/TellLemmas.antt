@@ -14,6 +14,7 @@ use Rattle.nb_survey.specs.declared.word.Word.{Word}
 use Rattle.nb_survey.specs.declared.word.Word.TheVariants.{Answers}
 use Rattle.nb_survey.specs.Code.Kept.{Keeps, of_name, requests_in}
 use Rattle.nb_survey.specs.Places.{same_name}
+use Rattle.nb_survey.specs.Queries.{is_for, queries_of, step}
 use Rattle.nb_survey.specs.Requests.{answered, latest, requests}
 use Rattle.nb_survey.specs.Sayings.{asks_or_tells, is_of_a_name, is_of_record, is_positive, of_entry, of_listed, of_record, of_sender, of_target, sayings, worded}
 use Rattle.nb_survey.specs.Sayings as sayings
@@ -146,3 +147,11 @@ silent name before later other apart =
     fold-append step [] before (other ∷ later)
     ∙ (ap (λ xs. fold step (words_of name before ++ xs) later) none
     ∙ (ap (λ xs. fold step xs later) (append-nil (words_of name before)) ∙ sym (fold-append step [] before later)))
+
+-- a packet about another name changes no query about a name
+pub queries_silent : (name : List (List ℕ)) (before later : List Heard) (other : Heard) → is_for name other ≡ false
+    → queries_of name (before ++ other ∷ later) ≡ queries_of name (before ++ later)
+queries_silent name before later other apart =
+    let about = filter (is_for name) in
+    ap (fold step []) (filter-append (is_for name) before (other ∷ later)
+    ∙ (ap (λ b. about before ++ cond b (other ∷ about later) (about later)) apart ∙ sym (filter-append (is_for name) before later)))

@@ -6,6 +6,8 @@ pub mod Sayings
 pub mod Requests
 pub mod Telling
 pub mod Rows
+pub mod Queries
+pub mod QueryRows
 pub mod Sums
 pub mod Hearing
 pub mod Code

@@ -1,7 +1,7 @@
 -- The table *names*: a row for each name and address of which something is said; and *refusals*: one for each name, address, sender
 -- and word that refuses the name (our choice; docs/SUMMARY.md).
-use Rattle.std.specs.Prelude.{ℕ, ◌==◌, ◌&&◌, ◌||◌, ◌+◌, nat_le, count_by, ◌-◌, ◌^◌, min, not, Bool, true, false, List, [], ◌∷◌, filter, filter_map, Option, Some, None, unwrap_or, if◌then◌else◌}
-use Rattle.std.specs.List.{last_or}
+use Rattle.std.specs.Prelude.{ℕ, ◌≡◌, ◌++◌, ◌==◌, ◌&&◌, ◌||◌, ◌+◌, nat_le, count_by, ◌-◌, ◌^◌, min, not, Bool, true, false, List, [], ◌∷◌, filter, filter_map, Option, Some, None, bytes_eq, unwrap_or, if◌then◌else◌}
+use Rattle.std.specs.List.{last_or, list_any}
 use Rattle.nb_survey.specs.declared.key.Key.{Key}
 use Rattle.nb_survey.specs.declared.key.Reason.{Reason}
 use Rattle.nb_survey.specs.declared.heard.Said.{Said}
@@ -12,6 +12,7 @@ use Rattle.nb_survey.specs.declared.word.Asking.{Asking}
 use Rattle.nb_survey.specs.declared.word.Asking.TheVariants.{Claim}
 use Rattle.nb_survey.specs.declared.word.Word.{Word}
 use Rattle.nb_survey.specs.declared.word.Word.TheVariants.{Granted}
+use Rattle.nb_survey.specs.Hearing.{first_of}
 use Rattle.nb_survey.specs.Keys.{has_key, name_key, refusal_key}
 use Rattle.nb_survey.specs.Places.{same_address}
 use Rattle.nb_survey.specs.Words.{asking_of, is_own, is_refusal, is_standing, says_it_has}
@@ -71,6 +72,14 @@ mac_of said = if same_address said.facts.frame.source said.place.address then sa
 -- latest_of f said: the latest of these that has something, and what
 abbrev pub latest_of : {A : Type 0} → (Said → Option A) → List Said → Option A
 latest_of f said = last_or None (filter_map f said)
+
+-- IsWitnessed f said value: one of these words has this
+pub record IsWitnessed {A : Type 0} (f : Said → Option A) (said : List Said) (value : A) : Type 0 where
+  pub before : List Said
+  pub word : Said
+  pub later : List Said
+  pub stands : said ≡ before ++ word ∷ later
+  pub has : f word ≡ Some value
 
 -- packets frames: how many packets these frames of words are, of which those of a packet stand in a row
 abbrev pub packets : List ℕ → ℕ
@@ -148,3 +157,16 @@ may_be_unique row = stands row && not (unwrap_or row.group false)
 -- the table *several*: of these rows of a name at least two are standing, not all of them a group's
 abbrev pub are_several : List Row → Bool
 are_several rows = nat_le 2 (count_by stands rows) && nat_le 1 (count_by may_be_unique rows)
+
+-- the MAC of a row that is standing
+abbrev pub standing_mac : Row → Option (List ℕ)
+standing_mac row = if stands row then row.mac else None
+
+-- both are known, and differ
+abbrev pub differ : Option (List ℕ) → Option (List ℕ) → Bool
+differ (Some one) (Some other) = not (bytes_eq one other)
+differ _ _ = false
+
+-- rows of the table *several* have a mark: one that is standing has another MAC than the first such one that has any
+abbrev pub macs_differ : List Row → Bool
+macs_differ rows = list_any (λ row. differ (first_of standing_mac rows) (standing_mac row)) rows

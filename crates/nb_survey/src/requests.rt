@@ -1,9 +1,11 @@
 //! The requests that responses are about.
-ghost use Rattle.std.specs.Prelude.{◌≡◌, IfOk, OnOk, filter, not};
+ghost use Rattle.std.specs.Prelude.{◌≡◌, ◌≤◌, ◌<◌, ◌+◌, IfOk, filter, length, not, true, if◌then◌else◌};
 ghost use Rattle.nb_survey.specs.Requests.{answered, fits, last_fitting, renewed_by, replaces, request_of, same_asking};
+ghost use Rattle.nb_survey.specs.declared.limits.TheConstants.{MAX_REQUESTS};
 
 use crate::heard::{Facts, Said};
 use crate::key::same_address;
+use crate::limits::MAX_REQUESTS;
 use crate::word::Asking;
 use nb_streams::NoMemory;
 use std::alloc::Global;
@@ -66,23 +68,51 @@ pub(crate) fn same_asking(one: Asking, other: Asking) -> bool
     )
 }
 
-/// Takes a word that is said of a name to its latest requests.
-pub(crate) fn renew(requests: &mut Vec<Request>, said: &Said) -> Result<(), NoMemory>
-    ensures { OnOk result
-        (requests.new.items ≡ renewed_by requests.old.items (request_of said.now)) }
+/// Counts one more request, where there is room for it; whether there is.
+pub(crate) fn is_counted(count: &mut usize) -> bool
+    ensures counted { count.new ≡ count.old + (if result then 1 else 0) }
+    ensures within { count.old ≤ MAX_REQUESTS → count.new ≤ MAX_REQUESTS }
+    ensures room { count.new < MAX_REQUESTS → result ≡ true }
+{
+    if *count >= MAX_REQUESTS {
+        return false;
+    }
+    *count += 1;
+    true
+}
+
+/// Takes a word that is said of a name to its latest requests, where there is room among all
+/// requests, of which there are so many; whether there is.
+pub(crate) fn renew(
+    requests: &mut Vec<Request>,
+    said: &Said,
+    count: &mut usize,
+) -> Result<bool, NoMemory>
+    ensures renewed { IfOk result (λ has_room. has_room ≡ true →
+        requests.new.items ≡ renewed_by requests.old.items (request_of said.now)) }
+    ensures counted { length requests.new.items + count.old
+        ≤ length requests.old.items + count.new }
+    ensures within { count.old ≤ MAX_REQUESTS → count.new ≤ MAX_REQUESTS }
+    ensures grows { count.old ≤ count.new }
+    ensures room { IfOk result (λ has_room. count.new < MAX_REQUESTS → has_room ≡ true) }
 {
     let Some(request) = Request::of(said) else {
-        return Ok(());
+        return Ok(true);
     };
+    let before = requests.len();
     leave_out(requests, &request);
+    if requests.len() == before && !is_counted(count) {
+        return Ok(false);
+    }
     requests.push(request)?;
-    Ok(())
+    Ok(true)
 }
 
 /// Drops the requests that this one replaces.
 fn leave_out(requests: &mut Vec<Request>, request: &Request)
-    ensures { requests.new.items
+    ensures kept { requests.new.items
         ≡ filter (λ one. not (replaces request.now one)) requests.old.items }
+    ensures within { length requests.new.items ≤ length requests.old.items }
 {
     requests.retain(|one| !request.replaces(one));
 }

@@ -1,6 +1,7 @@
 //! A row of the table of names.
 ghost use Rattle.std.specs.Prelude.{◌≡◌, [], ◌∷◌, None, count_by, if◌then◌else◌};
-ghost use Rattle.nb_survey.specs.Rows.{are_several, half_of, is_grant, is_marked, later, may_be_unique, row_from, stands};
+ghost use Rattle.nb_survey.specs.Hearing.{first_of};
+ghost use Rattle.nb_survey.specs.Rows.{are_several, differ, half_of, is_grant, is_marked, later, macs_differ, may_be_unique, row_from, standing_mac, stands};
 ghost use Rattle.nb_survey.specs.Code.Steps.{after, counted};
 
 use crate::heard::Said;
@@ -193,6 +194,43 @@ impl Row {
     {
         self.is_standing() && !self.group.unwrap_or(false)
     }
+
+    /// Its MAC, where it is standing.
+    fn standing_mac(&self) -> Option<[u8; 6]>
+        ensures { result ≡ standing_mac self.now }
+    {
+        only_if(self.is_standing(), self.mac)
+    }
+}
+
+/// Whether both MACs are known, and differ.
+fn differ(one: Option<[u8; 6]>, other: Option<[u8; 6]>) -> bool
+    ensures { result ≡ differ one other }
+{
+    match (one, other) {
+        (Some(one), Some(other)) => one.as_slice() != other.as_slice(),
+        _ => false,
+    }
+}
+
+/// The MAC of the first of these rows that is standing and has one.
+fn first_mac(rows: &[Row]) -> Option<[u8; 6]>
+    ensures { result ≡ first_of standing_mac rows.now }
+{
+    let mut first = None;
+    'rows: for row in rows {
+        first = first.or(row.standing_mac());
+    }
+    first
+}
+
+/// Whether rows of a name that are of the table of several have a mark: the MACs of those that are
+/// standing differ.
+pub fn macs_differ(rows: &[Row]) -> bool
+    ensures { result ≡ macs_differ rows.now }
+{
+    let first = first_mac(rows);
+    rows.iter().any(|row| differ(first, row.standing_mac()))
 }
 
 /// Whether these rows of a name are of the table of several: at least two are standing, and not all

@@ -1,10 +1,11 @@
 //! The rows of the tables.
-ghost use Rattle.std.specs.Prelude.{◌≡◌, ◌≤◌, ◌&&◌, IfOk, None, Some, if◌then◌else◌};
+ghost use Rattle.std.specs.Prelude.{◌≡◌, ◌≤◌, ◌<◌, ◌&&◌, IfOk, None, Some, true, if◌then◌else◌};
 ghost use Rattle.std.specs.BTreeMap.{btree_map_len};
 ghost use Rattle.nb_survey.specs.Code.Kept.{kept_row, Taken};
 ghost use Rattle.nb_survey.specs.Code.Steps.{grown};
 ghost use Rattle.nb_survey.specs.Keys.{name_key, refusal_key, same_key};
 ghost use Rattle.nb_survey.specs.declared.key.Key.{Key as KeyValue};
+ghost use Rattle.nb_survey.specs.Sums.{HasRows};
 ghost use Rattle.nb_survey.specs.declared.limits.TheConstants.{MAX_ROWS};
 
 use crate::heard::Said;
@@ -55,6 +56,10 @@ impl Table {
             else kept_row self.old other)) }
         ensures bounded { btree_map_len self.old.rows ≤ MAX_ROWS →
             btree_map_len self.new.rows ≤ MAX_ROWS }
+        ensures grows { btree_map_len self.new.rows < MAX_ROWS →
+            btree_map_len self.old.rows < MAX_ROWS }
+        ensures room { IfOk result (λ has_room.
+            btree_map_len self.new.rows < MAX_ROWS → has_room ≡ true) }
     {
         if let Some(row) = self.rows.get_mut(&key) {
             *row = row.after(said);
@@ -100,6 +105,8 @@ impl Tables {
             btree_map_len self.old.refusals.rows ≤ MAX_ROWS →
             (btree_map_len self.new.names.rows ≤ MAX_ROWS)
             × (btree_map_len self.new.refusals.rows ≤ MAX_ROWS) }
+        ensures room { IfOk result (λ has_room.
+            HasRows self.new → HasRows self.old × (has_room ≡ true)) }
     {
         let is_named = self.names.hear(said.name_key(), said)?;
         let Some(key) = said.refusal_key() else {

@@ -1,20 +1,24 @@
 //! The tables of a summary, packet by packet.
-ghost use Rattle.std.specs.Prelude.{◌≡◌, ◌<◌, ◌++◌, ◌∷◌, [], ◌&&◌, ℕ, List, IfOk, OnOk, Some, true, filter};
+ghost use Rattle.std.specs.Prelude.{◌≡◌, ◌<◌, ◌≤◌, ◌+◌, ◌++◌, ◌∷◌, [], ℕ, List, IfOk, OnOk, None, true, false, filter, IsSome};
+ghost use Rattle.std.specs.List.{list_any};
 ghost use Rattle.std.specs.Map.{lookup};
-ghost use Rattle.nb_survey.specs.Code.Kept.{Hears, is_whole, Keeps, left_out};
+ghost use Rattle.nb_survey.specs.Code.Kept.{is_whole, IsRenewed, Keeps, kept_count, left_out, of_name};
 ghost use Rattle.nb_survey.specs.Keys.{name_key, refusal_key, same_key};
-ghost use Rattle.nb_survey.specs.Requests.{renewed_by, request_of};
+ghost use Rattle.nb_survey.specs.Places.{same_name};
+ghost use Rattle.nb_survey.specs.Queries.{queries_of, step};
 ghost use Rattle.nb_survey.specs.Rows.{keys_of, row_at};
-ghost use Rattle.nb_survey.specs.Sums.{IsBounded, Sums};
+ghost use Rattle.nb_survey.specs.Sums.{IsBounded, KeepsAll, Sums, Takes};
 ghost use Rattle.nb_survey.specs.Telling.{about, answer_of, answers_to, group_at, is_about, of_request, told, words_of};
 ghost use Rattle.nb_survey.specs.Words.{word_of};
 ghost use Rattle.nb_survey.specs.declared.heard.Heard.{Heard as HeardValue};
 ghost use Rattle.nb_survey.specs.declared.heard.Said.{Said as SaidValue};
 ghost use Rattle.nb_survey.specs.declared.key.Key.{Key as KeyValue};
+ghost use Rattle.nb_survey.specs.declared.limits.TheConstants.{MAX_REQUESTS};
 
 use crate::heard::{Heard, Said};
 use crate::key::{Key, same_address};
 use crate::limits::MAX_NAMES;
+use crate::query::{Query, take_query};
 use crate::requests::{Request, answered, renew};
 use crate::row::Row;
 use crate::rows::Tables;
@@ -24,32 +28,54 @@ use nb_names::DomainName;
 use nb_service::{AddressEntry, opcode};
 use nb_streams::NoMemory;
 use std::alloc::Global;
-use std::collections::btree_map::Iter;
+use std::collections::btree_map::{Iter, Keys};
 use std::collections::{BTreeMap, BTreeSet};
 use std::net::{IpAddr, Ipv4Addr};
 
 /// What is kept of a name besides its rows.
 #[derive(Drop)]
-pub(crate) struct Kept {
-    /// Whether all of its rows are kept.
+pub struct Kept {
+    /// Whether all that is said of it is kept.
     is_whole: bool,
     /// Its latest requests, one for each address and what is asked.
     requests: Vec<Request>,
+    /// The queries about it.
+    queries: Vec<Query>,
 }
 
 impl Kept {
-    /// Takes a word that is said of the name, whose row had room or not. Requests are remembered of
-    /// addresses that have rows, two for each at most.
-    fn hear(&mut self, said: &Said, has_room: bool) -> Result<(), NoMemory>
-        ensures whole { self.new.is_whole ≡ (has_room && self.old.is_whole) }
-        ensures asked { OnOk result (has_room ≡ true → self.new.requests.items
-            ≡ renewed_by self.old.requests.items (request_of said.now)) }
+    /// Takes a word that is said of the name, whose row had room or not, where there are so many
+    /// requests of all names.
+    fn hear(&mut self, said: &Said, has_room: bool, count: &mut usize) -> Result<(), NoMemory>
+        ensures heard { OnOk result ((self.new.is_whole ≡ true →
+            IsRenewed self.old self.new said.now has_room)
+            × (count.new < MAX_REQUESTS → has_room ≡ true →
+            self.new.is_whole ≡ self.old.is_whole)) }
+        ensures queries { self.new.queries.items ≡ self.old.queries.items }
+        ensures counted { kept_count self.new + count.old ≤ kept_count self.old + count.new }
+        ensures within { count.old ≤ MAX_REQUESTS → count.new ≤ MAX_REQUESTS }
+        ensures grows { count.old ≤ count.new }
     {
-        if !has_room {
+        if !has_room || !renew(&mut self.requests, said, count)? {
             self.is_whole = false;
-            return Ok(());
         }
-        renew(&mut self.requests, said)
+        Ok(())
+    }
+
+    /// Takes a packet about the name, where there are so many requests of all names.
+    fn ask(&mut self, heard: &Heard, count: &mut usize) -> Result<(), NoMemory>
+        ensures asked { OnOk result ((self.new.is_whole ≡ true → (self.old.is_whole ≡ true)
+            × (self.new.queries.items ≡ step self.old.queries.items heard.now))
+            × (count.new < MAX_REQUESTS → self.new.is_whole ≡ self.old.is_whole)) }
+        ensures requests { self.new.requests.items ≡ self.old.requests.items }
+        ensures counted { kept_count self.new + count.old ≤ kept_count self.old + count.new }
+        ensures within { count.old ≤ MAX_REQUESTS → count.new ≤ MAX_REQUESTS }
+        ensures grows { count.old ≤ count.new }
+    {
+        if !take_query(&mut self.queries, heard, count)? {
+            self.is_whole = false;
+        }
+        Ok(())
     }
 }
 
@@ -61,6 +87,8 @@ pub struct Survey {
     tables: Tables,
     /// Names that found no room.
     others: BTreeSet<DomainName>,
+    /// How many requests of all names are kept, at most.
+    count: usize,
 }
 
 impl Survey {
@@ -68,12 +96,14 @@ impl Survey {
     pub fn new(alloc: Global) -> Survey
         ensures sums { Sums result [] }
         ensures bounded { IsBounded result }
+        ensures kept { KeepsAll result }
     {
         Survey {
             alloc,
             by_name: BTreeMap::new(alloc),
             tables: Tables::new(alloc),
             others: BTreeSet::new(alloc),
+            count: 0,
         }
     }
 
@@ -85,9 +115,11 @@ impl Survey {
     pub fn take(&mut self, heard: &Heard) -> Result<(), NoMemory>
         ensures sums { OnOk result ((packets : List HeardValue) → Sums self.old packets →
             Sums self.new (packets ++ heard.now ∷ [])) }
+        ensures kept { OnOk result (KeepsAll self.old → KeepsAll self.new) }
         ensures bounded { IsBounded self.old → IsBounded self.new }
     {
         let said = self.told(heard)?;
+        self.ask(heard)?;
         self.hear_all(said.as_slice())
     }
 
@@ -123,6 +155,28 @@ impl Survey {
         self.tables.refusals.iter()
     }
 
+    /// The names of which something is kept, in their order: one that isn't among them, where
+    /// [all](Survey::is_whole) of it is kept, has no queries.
+    pub fn kept_names(&self) -> Keys<'_, DomainName, Kept>
+        ensures { (packets : List HeardValue) → Sums self.now packets → (name : List (List ℕ)) →
+            is_whole self.now name ≡ true → list_any (same_name name) result ≡ false →
+            queries_of name packets ≡ [] }
+    {
+        self.by_name.keys()
+    }
+
+    /// The queries about a name, each with its repeats and what came of it, in the order of their
+    /// first packets. Some may lack where not [all](Survey::is_whole) of the name is kept.
+    pub fn queries(&self, name: &DomainName) -> &[Query]
+        ensures { (packets : List HeardValue) → Sums self.now packets →
+            is_whole self.now name.now ≡ true → result.now ≡ queries_of name.now packets }
+    {
+        match self.by_name.get(name) {
+            Some(kept) => kept.queries.as_slice(),
+            None => &[],
+        }
+    }
+
     /// Whether all is kept that the packets say of a name. Of a name without rows it isn't known
     /// once a name found no room.
     pub fn is_whole(&self, name: &DomainName) -> bool
@@ -141,10 +195,26 @@ impl Survey {
         self.others.len()
     }
 
+    /// Takes a packet to the queries about its name.
+    fn ask(&mut self, heard: &Heard) -> Result<(), NoMemory>
+        ensures heard { OnOk result (Takes self.old self.new [] (heard.now ∷ [])) }
+        ensures bounded { IsBounded self.old → IsBounded self.new }
+    {
+        let Some(name) = &heard.name else {
+            return Ok(());
+        };
+        if !self.admit(name)? {
+            return Ok(());
+        }
+        let Some(kept) = self.by_name.get_mut(name) else {
+            return Ok(());
+        };
+        kept.ask(heard, &mut self.count)
+    }
+
     /// Takes words that are said, in order.
     fn hear_all(&mut self, said: &[Said]) -> Result<(), NoMemory>
-        ensures heard { OnOk result ((name : List (List ℕ)) → is_whole self.new name ≡ true →
-            Hears self.old self.new name said.now) }
+        ensures heard { OnOk result (Takes self.old self.new said.now []) }
         ensures bounded { IsBounded self.old → IsBounded self.new }
     {
         'words: for one in said {
@@ -155,26 +225,43 @@ impl Survey {
 
     /// Takes a word that is said.
     fn hear(&mut self, said: &Said) -> Result<(), NoMemory>
-        ensures heard { OnOk result ((name : List (List ℕ)) → is_whole self.new name ≡ true →
-            Hears self.old self.new name (said.now ∷ [])) }
+        ensures heard { OnOk result (Takes self.old self.new (said.now ∷ []) []) }
         ensures bounded { IsBounded self.old → IsBounded self.new }
     {
         let name = &said.place.name;
-        if let Some(kept) = self.by_name.get_mut(name) {
-            let has_room = self.tables.hear(said)?;
-            return kept.hear(said, has_room);
+        if !self.admit(name)? {
+            return Ok(());
         }
-        if self.by_name.len() >= MAX_NAMES || self.others.len() > 0 {
-            return self.leave_out(name);
-        }
-        let mut kept = Kept {
-            is_whole: true,
-            requests: Vec::new(self.alloc),
+        let Some(kept) = self.by_name.get_mut(name) else {
+            return Ok(());
         };
         let has_room = self.tables.hear(said)?;
-        kept.hear(said, has_room)?;
+        kept.hear(said, has_room, &mut self.count)
+    }
+
+    /// Admits a name, where there is room for it; whether it is kept.
+    fn admit(&mut self, name: &DomainName) -> Result<bool, NoMemory>
+        ensures admitted { OnOk result (Takes self.old self.new [] []) }
+        ensures kept { IfOk result (λ is_kept. is_kept ≡ true →
+            IsSome (of_name self.new name.now)) }
+        ensures left { IfOk result (λ is_kept. is_kept ≡ false →
+            (of_name self.new name.now ≡ None) × (0 < left_out self.new)) }
+        ensures bounded { IsBounded self.old → IsBounded self.new }
+    {
+        if self.by_name.contains_key(name) {
+            return Ok(true);
+        }
+        if self.by_name.len() >= MAX_NAMES || self.others.len() > 0 {
+            self.leave_out(name)?;
+            return Ok(false);
+        }
+        let kept = Kept {
+            is_whole: true,
+            requests: Vec::new(self.alloc),
+            queries: Vec::new(self.alloc),
+        };
         self.by_name.insert(name.copied(), kept)?;
-        Ok(())
+        Ok(true)
     }
 
     /// Counts a name that finds no room.

@@ -1,12 +1,14 @@
 -- What the code keeps of what is said.
-use Rattle.std.specs.Prelude.{◌≡◌, ℕ, ◌==◌, ◌++◌, Bool, true, false, List, [], filter, Option, None, Some}
+use Rattle.std.specs.Prelude.{◌≡◌, ℕ, ◌==◌, ◌++◌, ◌+◌, Bool, true, false, List, [], filter, fold, length, Option, None, Some}
 use Rattle.std.specs.BTreeMap.{get}
 use Rattle.std.specs.BTreeSet.{btree_set_len}
 use Rattle.std.specs.declared.net.ip_addr.IpAddr.{IpAddr}
 use Rattle.nb_names.specs.DomainName.{domain_cmp}
+use Rattle.nb_survey.specs.declared.heard.Heard.{Heard}
 use Rattle.nb_survey.specs.declared.heard.Said.{Said}
 use Rattle.nb_survey.specs.declared.key.Key.{Key}
 use Rattle.nb_survey.specs.declared.key.Reason.{Reason}
+use Rattle.nb_survey.specs.declared.query.Query.{Query}
 use Rattle.nb_survey.specs.declared.requests.Request.{Request}
 use Rattle.nb_survey.specs.declared.row.Row.{Row}
 use Rattle.nb_survey.specs.declared.rows.Table.{Table}
@@ -14,7 +16,8 @@ use Rattle.nb_survey.specs.declared.survey.Kept.{Kept}
 use Rattle.nb_survey.specs.declared.survey.Survey.{Survey}
 use Rattle.nb_survey.specs.Code.Steps.{grown}
 use Rattle.nb_survey.specs.Keys.{has_key, key_cmp, name_key, refusal_key}
-use Rattle.nb_survey.specs.Requests.{latest, requests}
+use Rattle.nb_survey.specs.Queries.{is_for, step}
+use Rattle.nb_survey.specs.Requests.{latest, renewed_by, request_of, requests}
 use Rattle.nb_survey.specs.Rows.{row_at}
 use Rattle.nb_survey.specs.Telling.{is_about}
 
@@ -35,6 +38,21 @@ pub record Taken (key_of : Said → Option Key) (old new : Table) (said : Said) 
 abbrev pub requests_in : Option Kept → List Request
 requests_in None = []
 requests_in (Some kept) = kept.requests.items
+
+-- the queries that are kept about a name
+abbrev pub queries_in : Option Kept → List Query
+queries_in None = []
+queries_in (Some kept) = kept.queries.items
+
+-- how many requests are kept of a name
+abbrev pub kept_count : Kept → ℕ
+kept_count kept = length kept.requests.items + length kept.queries.items
+
+-- IsRenewed old new said has_room: all of a name was kept, and with this word it still is
+pub record IsRenewed (old new : Kept) (said : Said) (has_room : Bool) : Type 0 where
+  pub room : has_room ≡ true
+  pub whole : old.is_whole ≡ true
+  pub asked : new.requests.items ≡ renewed_by old.requests.items (request_of said)
 
 -- whole_in others kept: nothing of a name is left out; one that isn't kept may be one of the others
 abbrev pub whole_in : ℕ → Option Kept → Bool
@@ -59,7 +77,8 @@ pub record Keeps (survey : Survey) (name : List (List ℕ)) (said : List Said) :
   pub refusals : (address : IpAddr) (reason : Option Reason) → kept_row survey.tables.refusals (key_at name address reason) ≡ row_at refusal_key (key_at name address reason) said
   pub asked : requests_in (of_name survey name) ≡ latest (requests said)
 
--- Hears old new name said: all of the name was kept, and with these words it still is
-pub record Hears (old new : Survey) (name : List (List ℕ)) (said : List Said) : Type 0 where
+-- Hears old new name said packets: all of the name was kept, and with these words and packets it still is
+pub record Hears (old new : Survey) (name : List (List ℕ)) (said : List Said) (packets : List Heard) : Type 0 where
   pub whole : is_whole old name ≡ true
   pub keeps : (before : List Said) → Keeps old name before → Keeps new name (before ++ filter (is_about name) said)
+  pub queries : queries_in (of_name new name) ≡ fold step (queries_in (of_name old name)) (filter (is_for name) packets)

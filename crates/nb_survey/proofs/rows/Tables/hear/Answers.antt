@@ -16,3 +16,11 @@ returns-then-is_named-clause-heard c =
       record { takes = λ room. named.takes c.if-is_named.true; stays = named.stays },
       table_takes refusal_key c.args.self.now.refusals c.hear-2.new.self c.in-Some.key s c.in_ok-is_refused.is_refused (sym c.in-Some.is ∙ c.refusal_key.ensures) c.in_ok-is_refused.ensures.heard,
     )
+
+pub returns-in_default-clause-room : goal.returns-in_default-clause-room
+returns-in_default-clause-room c = λ has.
+    (record { names = c.hear.ensures.grows has.names; refusals = has.refusals }, c.in_ok-is_named.ensures.room has.names)
+
+pub returns-then-is_named-clause-room : goal.returns-then-is_named-clause-room
+returns-then-is_named-clause-room c = λ has.
+    (record { names = c.hear.ensures.grows has.names; refusals = c.hear-2.ensures.grows has.refusals }, c.in_ok-is_refused.ensures.room has.refusals)

@@ -1,50 +1,53 @@
-use Rattle.std.proofs.Common.{◌≡◌, ◌∙◌, refl, sym, ap, rules, arith, ◌&&◌, ℕ, List}
+use Rattle.std.proofs.Common.{◌≡◌, refl, sym, ap, subst, rules, arith, ◌<◌, false, [], ◌∷◌, cond}
 use Rattle.std.proofs.lemmas.Grind.{common_steps}
 use Rattle.std.proofs.lemmas.Result.{on_ok_weaker}
-use Rattle.std.specs.BTreeMap.{get}
-use Rattle.nb_names.specs.DomainName.{domain_cmp}
-use Rattle.nb_survey.specs.declared.survey.Survey.{Survey}
-use Rattle.nb_survey.specs.Code.Kept.{left_out, of_name, requests_in, whole_in}
-use Rattle.nb_survey.specs.Requests.{renewed_by, request_of}
-use Rattle.nb_survey.proofs.KeepLemmas.{empty_whole, hears_none, hears_on}
+use Rattle.nb_survey.specs.declared.limits.TheConstants.{MAX_NAMES}
+use Rattle.nb_survey.proofs.KeepLemmas.{bounded_on, passes, takes_both, takes_word}
+use Rattle.nb_survey.proofs.PlaceLemmas.{name_self}
 use Rattle.nb_survey.proofs.survey.Survey.hear.Goals as goal
 
-pub returns-in-Some-clause-heard : goal.returns-in-Some-clause-heard
-returns-in-Some-clause-heard c =
-    let old = c.args.self.now in
+pub returns-clause-heard : goal.returns-clause-heard
+returns-clause-heard c =
+    let mid = c.admit.new.self in
     let s = c.args.said.now in
-    let kept = c.hear-in-Some.new.self in
-    let there = sym c.in-Some.ensures.value in
-    on_ok_weaker c.hear-in-Some.result (λ hears. hears_on old _ s c.in_ok-has_room.has_room kept (record {
+    let kept = c.hear-2.new.self in
+    on_ok_weaker c.hear-2.result (λ heard. takes_both c.args.self.now mid _ [] (s ∷ []) [] [] c.in_ok-admit.ensures.admitted
+    (takes_word mid _ s c.in_ok-has_room.has_room _ kept (record {
+      there = sym c.in-Some.ensures.value;
       rows = c.in_ok-has_room.ensures.heard.0;
       refusals = c.in_ok-has_room.ensures.heard.1;
       names = λ name. grind (arith, common_steps, ((c.get_mut.follows.holds kept).3 (search rules)).0 name);
       others = refl;
-      whole = c.hear-in-Some.ensures.whole ∙ ap (λ w. c.in_ok-has_room.has_room && w) (sym (ap (whole_in (left_out old)) there));
-      asked = λ room. hears room ∙ ap (λ o. renewed_by (requests_in o) (request_of s)) (sym there);
-    })) c.hear-in-Some.ensures.asked
+      whole = heard.0;
+      queries = c.hear-2.ensures.queries;
+      room = λ has.
+          let rows = c.in_ok-has_room.ensures.room has.rows in (
+            record {
+              names = subst (λ n. n < MAX_NAMES) (c.get_mut.follows.holds kept).2 has.names;
+              rows = rows.0;
+              requests = omega (arith, c.hear-2.ensures.grows, has.requests);
+            },
+            heard.1 has.requests rows.1,
+          );
+    }) (name_self s.place.name))) c.hear-2.ensures.heard
 
-pub returns-then-len-ge-MAX_NAMES-clause-heard : goal.returns-then-len-ge-MAX_NAMES-clause-heard
-returns-then-len-ge-MAX_NAMES-clause-heard c =
-    let same : (name : List (List ℕ)) → get domain_cmp c.get_mut.follows.lender-at-none name ≡ of_name c.args.self.now name =
-    λ name. grind (arith, common_steps, c.get_mut.follows.holds-at-none) in
-    on_ok_weaker c.leave_out.result (λ full. hears_none c.args.self.now c.leave_out.new.self c.args.said.now
-    (ap (λ (survey : Survey). survey.tables) c.leave_out.ensures.kept)
-    (λ name. ap (λ (survey : Survey). of_name survey name) c.leave_out.ensures.kept ∙ same name)
-    (sym c.in_default.ensures.value) full) c.leave_out.ensures.left
-
-pub returns-clause-heard : goal.returns-clause-heard
-returns-clause-heard c =
-    let old = c.args.self.now in
+pub returns-then-not-branch-clause-heard : goal.returns-then-not-branch-clause-heard
+returns-then-not-branch-clause-heard c =
+    let mid = c.admit.new.self in
     let s = c.args.said.now in
-    let kept = c.hear-3.new.self in
-    let there = sym c.in_default.ensures.value in
-    let none : left_out old ≡ 0 = omega arith in
-    hears_on old _ s c.in_ok-has_room-2.has_room kept (record {
-      rows = c.in_ok-has_room-2.ensures.heard.0;
-      refusals = c.in_ok-has_room-2.ensures.heard.1;
-      names = λ name. grind (arith, common_steps, c.get_mut.follows.holds-at-none, c.in_ok-insert.ensures.updates.0 name);
-      others = refl;
-      whole = c.in_ok-hear.ensures.whole ∙ ap (λ w. c.in_ok-has_room-2.has_room && w) (sym (ap (whole_in (left_out old)) there ∙ empty_whole (left_out old) none));
-      asked = λ room. c.in_ok-hear.ensures.asked room ∙ (ap (λ rs. renewed_by rs (request_of s)) c.new.ensures.items ∙ ap (λ o. renewed_by (requests_in o) (request_of s)) (sym there));
-    })
+    let off : c.in_ok-admit.field-0 ≡ false = search rules in
+    let left = c.in_ok-admit.ensures.left off in
+    takes_both c.args.self.now mid mid [] (s ∷ []) [] [] c.in_ok-admit.ensures.admitted
+    (passes mid s.place.name left.0 left.1 (s ∷ []) [] (λ name apart. ap (λ b. cond b (s ∷ []) []) apart) (λ name apart. refl))
+
+pub returns-in_err-has_room-clause-bounded : goal.returns-in_err-has_room-clause-bounded
+returns-in_err-has_room-clause-bounded c = λ b.
+    let kept = c.in-Some.kept.now in
+    bounded_on c.admit.new.self _ c.args.said.now.place.name kept kept (sym c.in-Some.ensures.value) (c.get_mut.follows.holds kept).0
+    (omega arith) (λ within. within) c.hear.ensures.bounded refl (c.admit.ensures.bounded b)
+
+pub returns-clause-bounded : goal.returns-clause-bounded
+returns-clause-bounded c = λ b.
+    let kept = c.hear-2.new.self in
+    bounded_on c.admit.new.self _ c.args.said.now.place.name _ kept (sym c.in-Some.ensures.value) (c.get_mut.follows.holds kept).0
+    c.hear-2.ensures.counted c.hear-2.ensures.within c.hear.ensures.bounded refl (c.admit.ensures.bounded b)

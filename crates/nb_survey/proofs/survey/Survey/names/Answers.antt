@@ -4,4 +4,4 @@ use Rattle.nb_survey.specs.Keys.{same_key}
 use Rattle.nb_survey.proofs.survey.Survey.names.Goals as goal
 
 pub returns : goal.returns
-returns c = λ packets sums key whole. ap (lookup (same_key key)) c.iter.ensures ∙ (sums key.name whole).rows key.address key.reason
+returns c = λ packets sums key whole. ap (lookup (same_key key)) c.iter.ensures ∙ (sums key.name whole).0.rows key.address key.reason

@@ -26,12 +26,10 @@ pub extern "C" fn nbt_station_absorb(
     ensures { OnLent station.old station.new (λ m. AbsorbsInto m moment table.now)
         (lent into.old used.old at.old) (lent into.new used.new at.new) result }
 {
-    match taken(alloc, station) {
-        None => NO_STATION,
-        Some(mut kept) => {
-            let answer = absorb_saved(alloc, &mut kept.member, moment, table, into.len());
-            put_back(station, kept);
-            write_answer(answer, into, used, at)
-        }
-    }
+    let Some(mut kept) = taken(alloc, station) else {
+        return NO_STATION;
+    };
+    let answer = absorb_saved(alloc, &mut kept.member, moment, table, into.len());
+    put_back(station, kept);
+    write_answer(answer, into, used, at)
 }

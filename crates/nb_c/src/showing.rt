@@ -1,9 +1,9 @@
 //! The texts of packets, their phrases and JSON objects, and the lines of captures.
 #![tactic(auto, using(nb_calls::proofs::ObjectLemmas::makes))]
 
-ghost use Rattle.nb_calls.specs.Outputs.{Writes, lent};
+ghost use Rattle.nb_calls.specs.Outputs.{Writes, lent, lent_with};
 ghost use Rattle.nb_calls.specs.Showing.{Objects, Phrases, Shows};
-ghost use Rattle.nb_calls.specs.Captures.{TellsLine, line_lent};
+ghost use Rattle.nb_calls.specs.Captures.{TellsLine};
 
 use nb_calls::output::write_bytes;
 use nb_calls::showing::{NbtLine, phrase, shown, tell_line, write_object};
@@ -76,8 +76,8 @@ pub extern "C" fn nbt_capture_line(
     into: &mut [u8],
     used: &mut usize,
 ) -> u32
-    ensures { TellsLine line.now (line_lent said.old into.old used.old)
-        (line_lent said.new into.new used.new) result }
+    ensures { TellsLine line.now (lent_with said.old into.old used.old)
+        (lent_with said.new into.new used.new) result }
 {
     tell_line(&capture_line(alloc, line), said, into, used)
 }

@@ -2,9 +2,7 @@
 #![tactic(auto, using(nb_calls::proofs::AnswerLemmas::answered))]
 
 ghost use Rattle.std.specs.Prelude.{◌≡◌, ◌≢◌};
-ghost use Rattle.nb_table.specs.Saved.{saved as saved_bytes};
-ghost use Rattle.nb_member.specs.Listing.{listing};
-ghost use Rattle.nb_member.specs.Member.{contents};
+ghost use Rattle.nb_calls.specs.Common.{contents, listing, saved as saved_bytes};
 ghost use Rattle.nb_calls.specs.Outputs.{lent};
 ghost use Rattle.nb_calls.specs.Stations.{Creates, OnLent, OnStation, Ticks, WritesOf};
 ghost use Rattle.nb_calls.specs.declared.statuses.TheConstants.{DONE, NO_STATION};
@@ -60,14 +58,12 @@ pub extern "C" fn nbt_station_tick(
         (λ m after. Ticks m now after dropped.old dropped.new result)
         ((dropped.new ≡ dropped.old) × (result ≡ NO_STATION)) }
 {
-    match taken(alloc, station) {
-        None => NO_STATION,
-        Some(mut kept) => {
-            *dropped = kept.member.tick(now).keys;
-            put_back(station, kept);
-            DONE
-        }
-    }
+    let Some(mut kept) = taken(alloc, station) else {
+        return NO_STATION;
+    };
+    *dropped = kept.member.tick(now).keys;
+    put_back(station, kept);
+    DONE
 }
 
 /// Writes the station's table, saved.
@@ -84,14 +80,12 @@ pub extern "C" fn nbt_station_save(
         (λ m. WritesOf (saved_bytes (contents m)) m)
         (lent into.old used.old 0) (lent into.new used.new 0) result }
 {
-    match taken(alloc, station) {
-        None => NO_STATION,
-        Some(kept) => {
-            let status = write_bytes(kept.member.table().save(), into, used);
-            put_back(station, kept);
-            status
-        }
-    }
+    let Some(kept) = taken(alloc, station) else {
+        return NO_STATION;
+    };
+    let status = write_bytes(kept.member.table().save(), into, used);
+    put_back(station, kept);
+    status
 }
 
 /// Writes the lines of the station's keys, as `nbt list` prints them of its table.
@@ -108,14 +102,12 @@ pub extern "C" fn nbt_station_list(
         (λ m. WritesOf (listing (contents m)) m)
         (lent into.old used.old 0) (lent into.new used.new 0) result }
 {
-    match taken(alloc, station) {
-        None => NO_STATION,
-        Some(kept) => {
-            let status = write_bytes(lines_of(alloc, kept.member.table()), into, used);
-            put_back(station, kept);
-            status
-        }
-    }
+    let Some(kept) = taken(alloc, station) else {
+        return NO_STATION;
+    };
+    let status = write_bytes(lines_of(alloc, kept.member.table()), into, used);
+    put_back(station, kept);
+    status
 }
 
 /// Gives a station back. Of none it does nothing.

@@ -1,6 +1,7 @@
 //! Payloads that a station takes, and what becomes of each.
 ghost use Rattle.std.specs.Prelude.{Err};
-ghost use Rattle.nb_calls.specs.Stations.{OnStation, Took, Tells, lent_for};
+ghost use Rattle.nb_calls.specs.Outputs.{lent_with};
+ghost use Rattle.nb_calls.specs.Stations.{OnStation, Took, Tells};
 ghost use Rattle.nb_calls.specs.declared.output.Refusal.TheVariants.{Fault};
 ghost use Rattle.nb_calls.specs.declared.statuses.TheConstants.{NO_STATION};
 
@@ -24,17 +25,15 @@ pub extern "C" fn nbt_station_take(
     used: &mut usize,
 ) -> u32
     ensures { OnStation station.old station.new
-        (λ m after. Took m moment payload.now after (lent_for taken.old into.old used.old)
-        (lent_for taken.new into.new used.new) result)
-        (Tells (Err (Fault NO_STATION)) (lent_for taken.old into.old used.old)
-        (lent_for taken.new into.new used.new) result) }
+        (λ m after. Took m moment payload.now after (lent_with taken.old into.old used.old)
+        (lent_with taken.new into.new used.new) result)
+        (Tells (Err (Fault NO_STATION)) (lent_with taken.old into.old used.old)
+        (lent_with taken.new into.new used.new) result) }
 {
-    match handle::taken(alloc, station) {
-        None => NO_STATION,
-        Some(mut kept) => {
-            let status = take(&mut kept.member, moment, payload, taken, into, used);
-            put_back(station, kept);
-            status
-        }
-    }
+    let Some(mut kept) = handle::taken(alloc, station) else {
+        return NO_STATION;
+    };
+    let status = take(&mut kept.member, moment, payload, taken, into, used);
+    put_back(station, kept);
+    status
 }

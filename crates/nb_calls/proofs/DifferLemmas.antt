@@ -1,8 +1,8 @@
 -- The least of all keys at which two tables differ is found among the keys of both.
-use Rattle.nb_calls.proofs.Common.{◌≡◌, ◌≢◌, ◌∙◌, ◌||◌, Bool, true, false, List, [], ◌∷◌, Option, Some, None, is_some, Ok, inl, inr, ◌⊎◌, refl, sym, ap, subst, true≢false, ⊤, list_any, Key, Contents, HasOneElse, EntryValue, AreSameAt, IsLeastDifference, Differs, difference_of, lower_by, lower_of, Narrows, same, differs, NarrowsBy, at_none, at_one}
+use Rattle.nb_calls.proofs.Common.{◌≡◌, ◌≢◌, ◌∙◌, ◌||◌, cond, Bool, true, false, List, [], ◌∷◌, Option, Some, None, is_some, Ok, inl, inr, ◌⊎◌, refl, sym, ap, subst, true≢false, ⊤, list_any, Key, Contents, HasOneElse, EntryValue, AreSameAt, IsLeastDifference, Differs, difference_of, lower_of, Narrows, same, differs, NarrowsBy, at_none, at_one}
 use Rattle.std.specs.Cmp.{tied_itself}
 use Rattle.std.specs.FinMap as maps
-use Rattle.std.specs.Ordering.{eq_by_cmp, ordering_reverse}
+use Rattle.std.specs.Ordering.{eq_by_cmp, is_lt, ordering_reverse}
 use Rattle.std.specs.declared.cmp.Ordering.{Ordering}
 use Rattle.std.specs.declared.cmp.Ordering.TheVariants.{Less, Equal, Greater}
 use Rattle.nb_datagram.specs.Key.{key_cmp, key_cmp_total, key_cmp_exact}
@@ -23,12 +23,12 @@ not_itself : (k : Key) → key_cmp k k ≢ Less
 not_itself k h = absurd (cc (h, tied_itself key_cmp_total k))
 
 -- the lower of two is at or below both
-lower_self : (k held : Key) (r : Ordering) → key_cmp k held ≡ r → key_cmp k (lower_by r k held) ≢ Less
+lower_self : (k held : Key) (r : Ordering) → key_cmp k held ≡ r → key_cmp k (cond (is_lt r) k held) ≢ Less
 lower_self k held Less e = not_itself k
 lower_self k held Equal e = λ h. absurd (cc (e, h))
 lower_self k held Greater e = λ h. absurd (cc (e, h))
 
-lower_held : (k held q : Key) (r : Ordering) → key_cmp k held ≡ r → key_cmp q held ≢ Less → key_cmp q (lower_by r k held) ≢ Less
+lower_held : (k held q : Key) (r : Ordering) → key_cmp k held ≡ r → key_cmp q held ≢ Less → key_cmp q (cond (is_lt r) k held) ≢ Less
 lower_held k held q Less e above = not_both k held q e above
 lower_held k held q Equal e above = above
 lower_held k held q Greater e above = above
@@ -51,7 +51,7 @@ module _ (t u : Contents) where
   IsDifference None = ⊤
   IsDifference (Some k) = ¬ AreSameAt t u k
 
-  lower_differs : (k held : Key) (r : Ordering) → ¬ AreSameAt t u k → ¬ AreSameAt t u held → ¬ AreSameAt t u (lower_by r k held)
+  lower_differs : (k held : Key) (r : Ordering) → ¬ AreSameAt t u k → ¬ AreSameAt t u held → ¬ AreSameAt t u (cond (is_lt r) k held)
   lower_differs k held Less n d = n
   lower_differs k held Equal n d = d
   lower_differs k held Greater n d = d

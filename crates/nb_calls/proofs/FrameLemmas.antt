@@ -1,27 +1,8 @@
 -- What is asked to be written on port 139 has one answer.
-use Rattle.nb_calls.proofs.Common.{◌≡◌, ◌==◌, ◌∙◌, ℕ, List, if◌then◌else◌, refl, sym, ap, subst, arith, HasOneElse, Parsed, Parses, WritesPacket, unknown_type, judged, frame, unless_faulty}
+use Rattle.nb_calls.proofs.Common.{◌≡◌, ◌∙◌, ℕ, List, refl, sym, ap, subst, arith, HasOneElse, Parsed, Parses, WritesPacket, unknown_type, judged, frame, unless_faulty}
 use Rattle.nb_session.specs.declared.packet.Kind.{Kind}
-use Rattle.nb_session.specs.declared.packet.Kind.TheVariants.{Message, Request, Positive, Negative, Retarget, Keepalive}
-use Rattle.nb_session.specs.Header.{type_of}
+use Rattle.nb_session.proofs.HeaderLemmas.{one_kind}
 use Rattle.nb_calls.specs.Sessions.{too_long, lacks}
-
--- a kind by its number, any other number being that of a message
-kind_with : ℕ → Kind
-kind_with n =
-    if n == 129 then Request else if n == 130 then Positive else if n == 131 then Negative
-    else if n == 132 then Retarget else if n == 133 then Keepalive else Message
-
-kind_again : (kind : Kind) → kind_with (type_of kind) ≡ kind
-unfolding kind_with
-kind_again Message = refl
-kind_again Request = refl
-kind_again Positive = refl
-kind_again Negative = refl
-kind_again Retarget = refl
-kind_again Keepalive = refl
-
-one_kind : (type : ℕ) (a b : Kind) → type_of a ≡ type → type_of b ≡ type → a ≡ b
-one_kind type a b h k = sym (kind_again a) ∙ ap kind_with (h ∙ sym k) ∙ kind_again b
 
 module _ (type : ℕ) (body : List ℕ) where
   -- one answer is written, where one is parsed
@@ -38,7 +19,7 @@ module _ (type : ℕ) (body : List ℕ) where
   one_writes one _ _ p (lacks _ _ _) h k = absurd (k refl)
   one_writes one _ _ (lacks _ _ _) q h k = absurd (h refl)
   one_writes one _ _ (judged kind a is short (parsed, p, e)) (judged other b also _ (found, q, d)) h k =
-      e ∙ together (one_kind type kind other is also) ∙ sym d where
+      e ∙ together (one_kind kind other (is ∙ sym also)) ∙ sym d where
         together : kind ≡ other → unless_faulty (frame kind body) parsed ≡ unless_faulty (frame other body) found
         together same =
             let there = subst (λ (k : Kind). Parses (frame k body) found) (sym same) q in

@@ -1,7 +1,7 @@
 -- A text is read as one name, or has one fault.
-use Rattle.nb_calls.proofs.Common.{◌≡◌, ℕ, List, Result, Ok, Err, IfOk, IfErr, ap, subst, TextFault, NetbiosName, IsText, IsFaultOf, Refusal, HasOneElse, OrMemory}
+use Rattle.nb_calls.proofs.Common.{◌≡◌, ℕ, List, length, Result, Ok, Err, IfOk, IfErr, ap, subst, arith, NameFault, TextFault, NetbiosName, IsText, IsFaultOf, Refusal, FaultAt, NAME_TRAILING_BYTES, NO_ROLE, name_refusal, HasOneElse, OrMemory}
 use Rattle.nb_calls.proofs.AnswerLemmas.{one_expected}
-use Rattle.nb_calls.specs.Names.{IsRead}
+use Rattle.nb_calls.specs.Names.{IsRead, IsWhole, whole, no_name, bytes_trail}
 
 -- a text has one name or one fault
 pub record TextLaws (text : List ℕ) : Type 0 where
@@ -20,6 +20,21 @@ pub read_of : (text : List ℕ) (read : Result NetbiosName TextFault) → IfOk r
     → IfErr read (IsFaultOf text) → IsRead text read
 read_of text (Ok name) found fault = found
 read_of text (Err fault) found fails = fails
+
+-- bytes are one name or have one fault, where one name stands in them or they have one
+module _ {A : Type 0} (stands : A → ℕ → Type 0) (fails : NameFault → Type 0) (bytes : List ℕ)
+    (one : (a b : A) (m n : ℕ) → stands a m → stands b n → (a ≡ b) × (m ≡ n)) (one_fault : (f g : NameFault) → fails f → fails g → f ≡ g)
+    (apart : (f : NameFault) (a : A) (n : ℕ) → fails f → ¬ stands a n) where
+  pub one_whole : (a b : Result A Refusal) → IsWhole stands fails bytes a → IsWhole stands fails bytes b → a ≡ b
+  one_whole _ _ (whole a p) (whole b q) = ap Ok (one a b (length bytes) (length bytes) p q).0
+  one_whole _ _ (whole a p) (no_name f q) = absurd (apart f a (length bytes) q p)
+  one_whole _ _ (whole a p) (bytes_trail b n q less) = absurd (omega (arith, less, (one a b (length bytes) n p q).1))
+  one_whole _ _ (no_name f p) (whole b q) = absurd (apart f b (length bytes) p q)
+  one_whole _ _ (no_name f p) (no_name g q) = ap (λ (x : NameFault). Err (name_refusal NO_ROLE x)) (one_fault f g p q)
+  one_whole _ _ (no_name f p) (bytes_trail b n q less) = absurd (apart f b n p q)
+  one_whole _ _ (bytes_trail a n p less) (whole b q) = absurd (omega (arith, less, (one b a (length bytes) n q p).1))
+  one_whole _ _ (bytes_trail a n p less) (no_name f q) = absurd (apart f a n q p)
+  one_whole _ _ (bytes_trail a m p less) (bytes_trail b n q more) = ap (λ (k : ℕ). Err (FaultAt NAME_TRAILING_BYTES k)) (one a b m n p q).1
 
 -- of what two texts are read as one thing is answered
 pub one_by_two : (first second : List ℕ) → TextLaws first → TextLaws second

@@ -1,31 +1,11 @@
 -- Of a response that is asked for one thing is answered.
-use Rattle.nb_calls.proofs.Common.{◌≡◌, ℕ, List, length, Result, Ok, Err, refl, ap, subst, arith, Refused, TextFault, NameAt, ResourceData, Refusal, FaultAt, NAME_TRAILING_BYTES, NO_ROLE, HasOneElse, OrMemory, NameFault, IsDomain, whole, no_name, bytes_trail, IsRdata, domain, domain_data, Responds, no_name_text, named, response_answer, name_refusal, text_refusal}
-use Rattle.nb_names.specs.NameFaults.{FaultAt as NameFaultAt}
+use Rattle.nb_calls.proofs.Common.{◌≡◌, ℕ, List, Result, Err, refl, ap, subst, arith, TextFault, ResourceData, Refusal, NO_ROLE, HasOneElse, OrMemory, IsDomain, IsRdata, domain, domain_data, Responds, no_name_text, named, response_answer, text_refusal}
 use Rattle.nb_calls.proofs.AnswerLemmas.{one_expected}
 use Rattle.nb_calls.proofs.NameLemmas.{TextLaws}
 use Rattle.nb_calls.specs.declared.service.Answered.{Answered}
 use Rattle.nb_calls.specs.Responses.{plain, too_long}
 
--- a spelling has one domain name or one fault
-pub record DomainLaws (bytes : List ℕ) : Type 0 where
-  pub one : (a b : List (List ℕ)) (next other : ℕ) → NameAt bytes Refused 0 a next → NameAt bytes Refused 0 b other
-      → (a ≡ b) × (next ≡ other)
-  pub one_fault : (a b : NameFault) → NameFaultAt bytes Refused 0 a → NameFaultAt bytes Refused 0 b → a ≡ b
-  pub apart : (fault : NameFault) (labels : List (List ℕ)) (next : ℕ) → NameFaultAt bytes Refused 0 fault → ¬ NameAt bytes Refused 0 labels next
-
-module _ (bytes : List ℕ) (laws : DomainLaws bytes) where
-  one_domain : (a b : Result (List (List ℕ)) Refusal) → IsDomain bytes a → IsDomain bytes b → a ≡ b
-  one_domain a b (whole l there) (whole m also) = ap (λ (x : List (List ℕ)). Ok x) (laws.one l m (length bytes) (length bytes) there also).0
-  one_domain a b (whole l there) (no_name f fails) = absurd (laws.apart f l (length bytes) fails there)
-  one_domain a b (whole l there) (bytes_trail m next also more) = absurd (omega (arith, more, (laws.one l m (length bytes) next there also).1))
-  one_domain a b (no_name f fails) (whole l there) = absurd (laws.apart f l (length bytes) fails there)
-  one_domain a b (no_name f fails) (no_name g fail) = ap (λ (x : NameFault). Err (name_refusal NO_ROLE x)) (laws.one_fault f g fails fail)
-  one_domain a b (no_name f fails) (bytes_trail m next also more) = absurd (laws.apart f m next fails also)
-  one_domain a b (bytes_trail m next also more) (whole l there) = absurd (omega (arith, more, (laws.one l m (length bytes) next there also).1))
-  one_domain a b (bytes_trail m next also more) (no_name f fails) = absurd (laws.apart f m next fails also)
-  one_domain a b (bytes_trail l next there more) (bytes_trail m other also past) =
-      ap (λ (n : ℕ). Err (FaultAt NAME_TRAILING_BYTES n)) (laws.one l m next other there also).1
-
+module _ (bytes : List ℕ) (one_domain : (a b : Result (List (List ℕ)) Refusal) → IsDomain bytes a → IsDomain bytes b → a ≡ b) where
   one_rdata : (kind : ℕ) (a b : Result ResourceData Refusal) → IsRdata kind bytes a → IsRdata kind bytes b → a ≡ b
   one_rdata kind a b (plain not short) (plain never fits) = refl
   one_rdata kind a b (plain not short) (too_long never long) = absurd (omega (arith, short, long))

@@ -1,5 +1,5 @@
 -- Of a payload of port 137: its header, and each item, of which one thing is answered.
-use Rattle.nb_calls.proofs.Common.{◌≡◌, ◌∙◌, ℕ, ◌<◌, ◌≤◌, List, length, Option, Some, None, Ok, Err, refl, ap, sym, subst, arith, MatchOption, PacketHeader, HasHeader, seen_extent, HasOutline, item_count, Refusal, HasOne, ServiceFault, ReadsItem, headless, uncounted, fails, stands, section_number, numbers, item_numbers, cut_header, service_refusal}
+use Rattle.nb_calls.proofs.Common.{◌≡◌, ◌∙◌, ℕ, ◌<◌, ◌≤◌, List, length, Option, Ok, Err, refl, ap, sym, subst, arith, PacketHeader, HasHeader, seen_extent, HasOutline, item_count, Refusal, HasOne, ServiceFault, ReadsItem, headless, uncounted, fails, stands, section_number, numbers, item_numbers, cut_header, service_refusal}
 use Rattle.nb_service.specs.declared.record.Extent.{Extent}
 use Rattle.nb_service.specs.declared.fault.ServiceFault.TheVariants.{Truncated}
 use Rattle.nb_service.specs.declared.record.Fields.{Fields}
@@ -24,13 +24,6 @@ cut_refusal payload fault cut = ap service_refusal cut.0
 -- the header of a packet stands there
 pub outline_header : (payload : List ℕ) (header : PacketHeader) (used : ℕ) → HasOutline payload header used → HasHeader payload header
 outline_header payload header used there = subst (λ (h : PacketHeader). HasHeader payload h) there.outlined there.stands.header
-
--- ---- what is known of an option whose value is known
-pub at_some : {A : Type 0} (o : Option A) (x : A) (P : Type 0) (Q : A → Type 0) → o ≡ Some x → MatchOption o P Q → Q x
-at_some {A} o x P Q is m = subst (λ (p : Option A). MatchOption p P Q) is m
-
-pub at_none : {A : Type 0} (o : Option A) (P : Type 0) (Q : A → Type 0) → o ≡ None → MatchOption o P Q → P
-at_none {A} o P Q is m = subst (λ (p : Option A). MatchOption p P Q) is m
 
 -- ---- items
 

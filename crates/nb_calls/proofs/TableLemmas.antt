@@ -1,5 +1,5 @@
 -- What stands in an input is one table or one fault, also under limits; what is told of one table, and of two, is one.
-use Rattle.nb_calls.proofs.Common.{◌≡◌, ◌≢◌, ℕ, ◌≤◌, List, Result, Ok, Err, Refusal, OrMemory, refl, subst, arith, Key, LoadFault, Contents, FewOfEach, Limits, TableValue, IsReadAs, LoadFails, ill_formed, too_long, full_source, full, no_memory, IsRead, AllShort, ap, Memory, HasOneElse, IfOk, NO_ROLE, NoMemory, SECOND, of_memory, saved, sym, ◌∙◌, Fits, IsRefused, EntryValue, load_refusal, IsLoaded, OfTwo, first_fails, second_fails, both, OfOne, not_read, read, widest, Joins, table_refusal}
+use Rattle.nb_calls.proofs.Common.{◌≡◌, ◌≢◌, ℕ, ◌≤◌, List, Result, Ok, Err, Refusal, OrMemory, refl, subst, arith, Key, LoadFault, Contents, FewOfEach, Limits, TableValue, IsReadAs, LoadFails, ill_formed, too_long, full_source, full, no_memory, IsRead, AllShort, ap, Memory, HasOneElse, IfOk, NO_ROLE, NoMemory, SECOND, of_memory, saved, sym, ◌∙◌, Fits, IsRefused, EntryValue, load_refusal, IsLoaded, IsUnread, OfTwo, first_fails, second_fails, both, OfOne, not_read, read, widest, Joins, table_refusal}
 use Rattle.std.specs.FinMap as maps
 use Rattle.nb_entries.specs.SavedReading.{Outcome}
 use Rattle.nb_entries.specs.declared.saved.LoadFault.TheVariants as loads
@@ -26,7 +26,7 @@ module _ (input : List ℕ) (limits : Limits) (laws : InputLaws input) where
   count_of : (t u : Contents) → IsReadAs input t → IsReadAs input u → maps.len u ≤ limits.keys → maps.len t ≤ limits.keys
   count_of t u r q s = subst (λ (x : Contents). maps.len x ≤ limits.keys) (laws.one u t q r) s
 
-  pub one_fault : (a b : LoadFault) → LoadFails input limits a → LoadFails input limits b → a ≡ b
+  one_fault : (a b : LoadFault) → LoadFails input limits a → LoadFails input limits b → a ≡ b
   one_fault a b (ill_formed p) (ill_formed q) = cc (laws.one_reading (Err a) (Err b) p q)
   one_fault a _ (ill_formed p) (too_long u q _) = no_fault u a q p
   one_fault a _ (ill_formed p) (full_source u q _ _) = no_fault u a q p
@@ -54,29 +54,28 @@ module _ (input : List ℕ) (limits : Limits) (laws : InputLaws input) where
   one_fault _ _ (no_memory t r s f k) (no_memory u q _ _ _) = refl
 
   -- what is loaded has no fault but for want of memory
-  pub as_memory : (t : TableValue) → IsLoaded input limits t → LoadFails input limits loads.NoMemory
+  as_memory : (t : TableValue) → IsLoaded input limits t → LoadFails input limits loads.NoMemory
   as_memory t is =
       no_memory t.contents is.stands (subst (λ (l : Limits). AllShort l.longest t.contents) is.limited is.keeps.short)
       (subst (λ (l : Limits). FewOfEach l.per_source t.contents) is.limited is.keeps.sources)
       (subst (λ (l : Limits). maps.len t.contents ≤ l.keys) is.limited is.keeps.count)
 
-  -- no other fault stands beside it
-  pub loaded_apart : {A : Type 0} (t : TableValue) (fault : LoadFault) → fault ≢ loads.NoMemory → IsLoaded input limits t
-      → LoadFails input limits fault → A
-  loaded_apart t fault h is p = absurd (h (one_fault fault loads.NoMemory p (as_memory t is)))
+  -- it is refused so alone
+  unread_apart : {A : Type 0} (role : ℕ) (t : TableValue) (refusal : Refusal) → IsLoaded input limits t → IsUnread role input limits refusal
+      → refusal ≢ Memory → A
+  unread_apart role t refusal is (fault, p, e) h =
+      absurd (h (e ∙ ap (load_refusal role) (one_fault fault loads.NoMemory p (as_memory t is))))
 
--- a refusal that isn't want of memory is of no such fault
-not_memory : {A : Type 0} (role : ℕ) (fault : LoadFault) (answer : Result A Refusal) → answer ≡ Err (load_refusal role fault)
-    → answer ≢ Err Memory → fault ≢ loads.NoMemory
-not_memory role fault answer is h e = h (is ∙ ap (λ (f : LoadFault). Err (load_refusal role f)) e)
+  one_unread : (role : ℕ) (r s : Refusal) → IsUnread role input limits r → IsUnread role input limits s → r ≡ s
+  one_unread role r s (f, p, e) (g, q, d) = cc (e, d, one_fault f g p q)
 
 -- ---- of one table, and of two
 
 module _ (table : List ℕ) (told_of : Contents → List ℕ) (laws : InputLaws table) where
   pub one_list : HasOneElse (OfOne table told_of)
-  one_list _ _ (not_read f p) (not_read g q) h k = ap (λ (x : LoadFault). Err (load_refusal NO_ROLE x)) (one_fault table widest laws f g p q)
-  one_list _ _ (not_read f p) (read t a is e) h k = loaded_apart table widest laws t f (not_memory NO_ROLE f _ refl h) is p
-  one_list _ _ (read t a is e) (not_read f p) h k = loaded_apart table widest laws t f (not_memory NO_ROLE f _ refl k) is p
+  one_list _ _ (not_read r p) (not_read s q) h k = ap Err (one_unread table widest laws NO_ROLE r s p q)
+  one_list _ _ (not_read r p) (read t a is e) h k = unread_apart table widest laws NO_ROLE t r is p (λ m. h (ap Err m))
+  one_list _ _ (read t a is e) (not_read r p) h k = unread_apart table widest laws NO_ROLE t r is p (λ m. k (ap Err m))
   one_list _ _ (read t a is e) (read u b also d) h k =
       one_expected (Ok (told_of t.contents)) a b e
       (subst (λ (x : Contents). OrMemory (Ok (told_of x)) b) (laws.one u.contents t.contents also.stands is.stands) d) h k
@@ -84,16 +83,14 @@ module _ (table : List ℕ) (told_of : Contents → List ℕ) (laws : InputLaws 
 module _ {A : Type 0} (first second : List ℕ) (limits : Limits) (Then : Contents → Contents → Result A Refusal → Type 0) (laws : InputLaws first)
     (more : InputLaws second) (one_said : (s t : Contents) → HasOneElse (Then s t)) where
   pub one_of_two : HasOneElse (OfTwo first second limits Then)
-  one_of_two _ _ (first_fails f p) (first_fails g q) h k =
-      ap (λ (x : LoadFault). Err (load_refusal NO_ROLE x)) (one_fault first limits laws f g p q)
-  one_of_two _ _ (first_fails f p) (second_fails one g is q) h k = loaded_apart first limits laws one f (not_memory NO_ROLE f _ refl h) is p
-  one_of_two _ _ (first_fails f p) (both one other b is also j) h k = loaded_apart first limits laws one f (not_memory NO_ROLE f _ refl h) is p
-  one_of_two _ _ (second_fails one g is q) (first_fails f p) h k = loaded_apart first limits laws one f (not_memory NO_ROLE f _ refl k) is p
-  one_of_two _ _ (second_fails one f is p) (second_fails _ g _ q) h k =
-      ap (λ (x : LoadFault). Err (load_refusal SECOND x)) (one_fault second limits more f g p q)
-  one_of_two _ _ (second_fails one f is p) (both _ other b _ also j) h k = loaded_apart second limits more other f (not_memory SECOND f _ refl h) also p
-  one_of_two _ _ (both one other a is also j) (first_fails f p) h k = loaded_apart first limits laws one f (not_memory NO_ROLE f _ refl k) is p
-  one_of_two _ _ (both one other a is also j) (second_fails _ f _ p) h k = loaded_apart second limits more other f (not_memory SECOND f _ refl k) also p
+  one_of_two _ _ (first_fails r p) (first_fails s q) h k = ap Err (one_unread first limits laws NO_ROLE r s p q)
+  one_of_two _ _ (first_fails r p) (second_fails one _ is q) h k = unread_apart first limits laws NO_ROLE one r is p (λ m. h (ap Err m))
+  one_of_two _ _ (first_fails r p) (both one other b is also j) h k = unread_apart first limits laws NO_ROLE one r is p (λ m. h (ap Err m))
+  one_of_two _ _ (second_fails one _ is q) (first_fails r p) h k = unread_apart first limits laws NO_ROLE one r is p (λ m. k (ap Err m))
+  one_of_two _ _ (second_fails one r is p) (second_fails _ s _ q) h k = ap Err (one_unread second limits more SECOND r s p q)
+  one_of_two _ _ (second_fails one r is p) (both _ other b _ also j) h k = unread_apart second limits more SECOND other r also p (λ m. h (ap Err m))
+  one_of_two _ _ (both one other a is also j) (first_fails r p) h k = unread_apart first limits laws NO_ROLE one r is p (λ m. k (ap Err m))
+  one_of_two _ _ (both one other a is also j) (second_fails _ r _ p) h k = unread_apart second limits more SECOND other r also p (λ m. k (ap Err m))
   one_of_two _ _ (both one other a is also j) (both two third b same too i) h k =
       one_said one.contents other.contents a b j
       (subst (λ (x : Contents). Then x other.contents b) (laws.one two.contents one.contents same.stands is.stands)
@@ -145,3 +142,8 @@ module _ (l : Limits) (s t : Contents) where
       → Joins l s t (of_memory told)
   join_done (Ok bytes) f e = (f, e)
   join_done (Err fault) f e = (tables.NoMemory, f, refl)
+
+-- what is said of the join of two tables under the limits that the first keeps
+pub joined_both : {first second : List ℕ} {limits : Limits} (s t : TableValue) (answer : Result (List ℕ) Refusal) → IsLoaded first limits s
+    → IsLoaded second limits t → Joins s.limits s.contents t.contents answer → OfTwo first second limits (Joins limits) answer
+joined_both s t answer is also j = both s t answer is also (subst (λ (l : Limits). Joins l s.contents t.contents answer) is.limited j)

@@ -1,11 +1,11 @@
 -- What the call does that joins another station's table to a station's (our choice).
 use Rattle.std.specs.Prelude.{◌≡◌, ◌<◌, ◌≤◌, ℕ, List, ◌∷◌, ◌++◌, length, Result, Ok, Err}
-use Rattle.nb_calls.specs.Common.{w16, to_be_bytes, flat_map, DatagramParts, type_of, name_bytes, TableFault, LoadFault, Contents, TableValue, LoadFails, key_bytes, IsRefused, MemberValue, contents, Absorbs, Previews, NO_ROLE}
+use Rattle.nb_calls.specs.Common.{w16, to_be_bytes, flat_map, DatagramParts, type_of, name_bytes, TableFault, Contents, TableValue, key_bytes, IsRefused, MemberValue, contents, Absorbs, Previews, NO_ROLE}
 use Rattle.nb_member.specs.Events.{limits_of}
 use Rattle.nb_calls.specs.Outputs.{Answers, Lent}
 use Rattle.nb_calls.specs.Stations.{table_refusal}
-use Rattle.nb_calls.specs.Statuses.{Refusal, Memory, load_refusal}
-use Rattle.nb_calls.specs.Tables.{IsLoaded}
+use Rattle.nb_calls.specs.Statuses.{Refusal, Memory}
+use Rattle.nb_calls.specs.Tables.{IsLoaded, IsUnread}
 
 -- what is written of a datagram: its key as in saved tables, MSG_TYPE, both spellings, how many bytes its data has, and
 -- these
@@ -40,8 +40,8 @@ pub data Joined (m : MemberValue) (moment : ℕ) (other : Contents) (room : ℕ)
 pub data Absorbed (m : MemberValue) (moment : ℕ) (table : List ℕ) (room : ℕ) (after : MemberValue) : Result (List ℕ) Refusal → Type 0 where
   read : (other : TableValue) (answer : Result (List ℕ) Refusal) → IsLoaded table (limits_of m.settings) other
       → Joined m moment other.contents room after answer → Absorbed m moment table room after answer
-  not_read : (fault : LoadFault) → LoadFails table (limits_of m.settings) fault → after ≡ m
-      → Absorbed m moment table room after (Err (load_refusal NO_ROLE fault))
+  not_read : (refusal : Refusal) → IsUnread NO_ROLE table (limits_of m.settings) refusal → after ≡ m
+      → Absorbed m moment table room after (Err refusal)
 
 -- AbsorbsInto m moment table after old new status: what the call does to the member m, and to what its caller lends
 abbrev pub AbsorbsInto : MemberValue → ℕ → List ℕ → MemberValue → Lent → Lent → ℕ → Type 0

@@ -1,5 +1,5 @@
 -- What the calls on names answer (RFC 1001 section 14.1, RFC 1002 section 4.1).
-use Rattle.std.specs.Prelude.{◌≡◌, ◌⊎◌, ◌<◌, ℕ, List, ◌++◌, length, drop, replicate, Result, Ok, Err}
+use Rattle.std.specs.Prelude.{◌<◌, ℕ, List, ◌++◌, length, drop, replicate, Result, Ok, Err}
 use Rattle.nb_calls.specs.Common.{NameFault, MAX_SPELLING, Refused, TextFault, spelling, NameAt, NetbiosName, IsName, labels_of_name, IsText, IsFaultOf, written, NAME_TRAILING_BYTES, NO_ROLE}
 use Rattle.nb_names.specs.NameFaults.{NetbiosFaultAt}
 use Rattle.nb_calls.specs.Outputs.{OrMemory}
@@ -19,17 +19,18 @@ spelling_answer (Err fault) = Err (text_refusal NO_ROLE fault)
 abbrev pub Spells : List ℕ → Result (List ℕ) Refusal → Type 0
 Spells text answer = (read : Result NetbiosName TextFault) × IsRead text read × OrMemory (spelling_answer read) answer
 
--- why the bytes aren't one name: it can't be read, or bytes follow it
-abbrev pub IsNoSpelling : List ℕ → Refusal → Type 0
-IsNoSpelling bytes refusal =
-    ((fault : NameFault) × NetbiosFaultAt bytes Refused 0 fault × (refusal ≡ name_refusal NO_ROLE fault))
-    ⊎ ((name : NetbiosName) × (next : ℕ) × IsName name × NameAt bytes Refused 0 (labels_of_name name) next
-    × (next < length bytes) × (refusal ≡ FaultAt NAME_TRAILING_BYTES next))
+-- IsWhole stands fails bytes read: the bytes are this name, which stands in them up to a place as `stands` says; or why they
+-- aren't one: none can be read, as `fails` says, or bytes follow it
+pub data IsWhole {A : Type 0} (stands : A → ℕ → Type 0) (fails : NameFault → Type 0) (bytes : List ℕ) : Result A Refusal → Type 0 where
+  whole : (name : A) → stands name (length bytes) → IsWhole stands fails bytes (Ok name)
+  no_name : (fault : NameFault) → fails fault → IsWhole stands fails bytes (Err (name_refusal NO_ROLE fault))
+  bytes_trail : (name : A) (next : ℕ) → stands name next → next < length bytes
+      → IsWhole stands fails bytes (Err (FaultAt NAME_TRAILING_BYTES next))
 
--- IsSpelling bytes read: the bytes are one name, or this is why they aren't
+-- IsSpelling bytes read: the bytes are the spelling of this NetBIOS name, or why they aren't one
 abbrev pub IsSpelling : List ℕ → Result NetbiosName Refusal → Type 0
-IsSpelling bytes (Ok name) = IsName name × NameAt bytes Refused 0 (labels_of_name name) (length bytes)
-IsSpelling bytes (Err refusal) = IsNoSpelling bytes refusal
+IsSpelling bytes =
+    IsWhole (λ name next. IsName name × NameAt bytes Refused 0 (labels_of_name name) next) (NetbiosFaultAt bytes Refused 0) bytes
 
 -- what is answered where bytes are read so: the name's text, or why they are no name
 abbrev pub text_answer : Result NetbiosName Refusal → Result (List ℕ) Refusal

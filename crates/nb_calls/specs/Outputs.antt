@@ -43,6 +43,21 @@ pub record Lent : Type 0 where
 abbrev pub lent : List ℕ → ℕ → ℕ → Lent
 lent buffer used place = record { buffer = buffer; used = used; place = place }
 
+-- what is answered beside a status: numbers, and bytes
+pub record Reported (A : Type 0) : Type 0 where
+  pub numbers : A
+  pub bytes : List ℕ
+
+-- what a caller lends for these: numbers that are filled in, a buffer, and how many bytes it has or wants
+pub record LentWith (A : Type 0) : Type 0 where
+  pub numbers : A
+  pub buffer : List ℕ
+  pub used : ℕ
+
+-- lent_with numbers buffer used: these
+abbrev pub lent_with : {A : Type 0} → A → List ℕ → ℕ → LentWith A
+lent_with numbers buffer used = record { numbers = numbers; buffer = buffer; used = used }
+
 -- Answers answer old new status: a call with this answer leaves what was lent so, and has this status
 abbrev pub Answers : Result (List ℕ) Refusal → Lent → Lent → ℕ → Type 0
 Answers (Ok bytes) old new status =

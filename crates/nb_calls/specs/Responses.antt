@@ -2,21 +2,17 @@
 -- sections 4.2.5 to 4.2.18, all but 4.2.8 and 4.2.15). RDATA of type NS is a domain name (section 4.2.1.3), here without
 -- pointers; places count from the front of its bytes.
 use Rattle.std.specs.Prelude.{◌≡◌, ◌≢◌, ◌<◌, ◌≤◌, ℕ, List, length, Result, Ok, Err, ◌==◌, nat_lt, if◌then◌else◌}
-use Rattle.nb_calls.specs.Common.{NameFault, Refused, TextFault, NameAt, NetbiosName, labels_of_name, IsText, IsFaultOf, NS, MAX_RDATA, ResourceData, ResourceRecord, of_bytes, of_domain, record_of, one_answer, query_packet, status_packet, registration_packet, refresh_packet, release_packet, Answered, LONG_DATA, NAME_TRAILING_BYTES, NO_ROLE, UNKNOWN_REQUEST, w32, to_be_bytes, AddressEntry, ServicePacket, entry_bytes, Asked}
+use Rattle.nb_calls.specs.Common.{Refused, TextFault, NameAt, NetbiosName, labels_of_name, IsText, IsFaultOf, NS, MAX_RDATA, ResourceData, ResourceRecord, of_bytes, of_domain, record_of, one_answer, query_packet, status_packet, registration_packet, refresh_packet, release_packet, Answered, LONG_DATA, NO_ROLE, UNKNOWN_REQUEST, w32, to_be_bytes, AddressEntry, ServicePacket, entry_bytes, Asked}
 use Rattle.nb_names.specs.NameFaults.{FaultAt as NameFaultAt}
 use Rattle.nb_service.specs.declared.classes.TheConstants.{IN}
 use Rattle.nb_service.specs.Encoding.{packet_bytes}
-use Rattle.nb_calls.specs.Statuses.{Refusal, Fault, FaultAt, text_refusal, name_refusal}
-use Rattle.nb_calls.specs.Names.{IsRead}
+use Rattle.nb_calls.specs.Statuses.{Refusal, Fault, text_refusal}
+use Rattle.nb_calls.specs.Names.{IsRead, IsWhole}
 use Rattle.nb_calls.specs.Outputs.{OrMemory}
 
--- IsDomain bytes read: the bytes are the spelling of a domain name with these labels, or why they aren't: no name can be
--- read, or bytes follow it
-pub data IsDomain (bytes : List ℕ) : Result (List (List ℕ)) Refusal → Type 0 where
-  whole : (labels : List (List ℕ)) → NameAt bytes Refused 0 labels (length bytes) → IsDomain bytes (Ok labels)
-  no_name : (fault : NameFault) → NameFaultAt bytes Refused 0 fault → IsDomain bytes (Err (name_refusal NO_ROLE fault))
-  bytes_trail : (labels : List (List ℕ)) (next : ℕ) → NameAt bytes Refused 0 labels next → next < length bytes
-      → IsDomain bytes (Err (FaultAt NAME_TRAILING_BYTES next))
+-- IsDomain bytes read: the bytes are the spelling of a domain name with these labels, or why they aren't one
+abbrev pub IsDomain : List ℕ → Result (List (List ℕ)) Refusal → Type 0
+IsDomain bytes = IsWhole (NameAt bytes Refused 0) (NameFaultAt bytes Refused 0) bytes
 
 -- the RDATA of type NS, where the name is read so
 abbrev pub domain_data : Result (List (List ℕ)) Refusal → Result ResourceData Refusal

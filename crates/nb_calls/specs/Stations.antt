@@ -16,7 +16,7 @@ use Rattle.nb_calls.specs.declared.taken.NbtTaken.{NbtTaken}
 use Rattle.nb_calls.specs.declared.taken.TheConstants as outcomes
 use Rattle.nb_calls.specs.Handles.{IsHere, IsNone}
 use Rattle.nb_calls.specs.Names.{IsRead}
-use Rattle.nb_calls.specs.Outputs.{Answers, Lent, OrMemory, Writes, refused_status, at_refused}
+use Rattle.nb_calls.specs.Outputs.{Answers, Lent, LentWith, OrMemory, Reported, Writes, refused_status, at_refused}
 use Rattle.nb_calls.specs.Statuses.{Refusal, Memory, Fault, FaultAt, datagram_refusal}
 
 -- ---- the names of a new station
@@ -149,13 +149,8 @@ error_bytes (Some error) = packet_bytes (Error error)
 abbrev pub Fronted : List ℕ → List ℕ → List ℕ → ℕ → Type 0
 Fronted bytes old new count = (new ≡ bytes ++ drop (length bytes) old) × (count ≡ length bytes)
 
--- what is reported of a payload: numbers, and bytes
-pub record Reported : Type 0 where
-  pub numbers : NbtTaken
-  pub bytes : List ℕ
-
 -- what is reported of each outcome
-abbrev pub told_of : Outcome → Reported
+abbrev pub told_of : Outcome → Reported NbtTaken
 told_of (Kept k) = record { numbers = of_key outcomes.KEPT k; bytes = [] }
 told_of (Spoilt k) = record { numbers = of_key outcomes.SPOILT k; bytes = [] }
 told_of (Delivered d) = record { numbers = of_delivered d; bytes = delivered_bytes d }
@@ -163,7 +158,7 @@ told_of (Unheard k error) = record { numbers = of_unheard k (length (error_bytes
 told_of Other = record { numbers = of_other; bytes = [] }
 
 -- told_refused fault error: what is reported of a payload that begins with no packet
-abbrev pub told_refused : DatagramFault → Option ErrorPacket → Reported
+abbrev pub told_refused : DatagramFault → Option ErrorPacket → Reported NbtTaken
 told_refused fault error =
     record { numbers = of_refused (datagram_refusal fault) (length (error_bytes error)); bytes = error_bytes error }
 
@@ -176,34 +171,24 @@ table_refusal (tables.Full key) = Fault statuses.FULL
 table_refusal tables.NoMemory = Memory
 
 -- what is reported of each answer of a member: of a payload that is no packet too; else why the fragment isn't taken in
-abbrev pub answer_told : Result Outcome MemberFault → Result Reported Refusal
+abbrev pub answer_told : Result Outcome MemberFault → Result (Reported NbtTaken) Refusal
 answer_told (Ok outcome) = Ok (told_of outcome)
 answer_told (Err (Packet fault error)) = Ok (told_refused fault error)
 answer_told (Err (Table fault)) = Err (table_refusal fault)
 
--- what the caller lends: the numbers that are filled in, a buffer, and how many bytes it has or wants
-pub record LentToTake : Type 0 where
-  pub taken : NbtTaken
-  pub buffer : List ℕ
-  pub used : ℕ
-
--- lent_for taken buffer used: these
-abbrev pub lent_for : NbtTaken → List ℕ → ℕ → LentToTake
-lent_for taken buffer used = record { taken = taken; buffer = buffer; used = used }
-
 -- Tells answer old new status: a call with this answer leaves what was lent so, and has this status
-abbrev pub Tells : Result Reported Refusal → LentToTake → LentToTake → ℕ → Type 0
+abbrev pub Tells : Result (Reported NbtTaken) Refusal → LentWith NbtTaken → LentWith NbtTaken → ℕ → Type 0
 Tells (Ok told) old new status =
-    (new.taken ≡ told.numbers) × (new.buffer ≡ told.bytes ++ drop (length told.bytes) old.buffer)
+    (new.numbers ≡ told.numbers) × (new.buffer ≡ told.bytes ++ drop (length told.bytes) old.buffer)
     × (new.used ≡ length told.bytes) × (status ≡ statuses.DONE)
 Tells (Err refusal) old new status =
-    (new.taken ≡ old.taken) × (new.buffer ≡ old.buffer) × (new.used ≡ old.used) × (status ≡ refused_status refusal)
+    (new.numbers ≡ old.numbers) × (new.buffer ≡ old.buffer) × (new.used ≡ old.used) × (status ≡ refused_status refusal)
 
 -- Took m moment payload after old new status: what the call that takes a payload does to the member m and to what its
 -- caller lends. The room is judged first: where there is too little, whatever the payload, nothing changes
 pub data Took (m : MemberValue) (moment : ℕ) (payload : List ℕ) (after : MemberValue)
-    (old new : LentToTake) (status : ℕ) : Type 0 where
-  no_room : length old.buffer < outcomes.TAKE_ROOM → after ≡ m → new.taken ≡ old.taken → new.buffer ≡ old.buffer
+    (old new : LentWith NbtTaken) (status : ℕ) : Type 0 where
+  no_room : length old.buffer < outcomes.TAKE_ROOM → after ≡ m → new.numbers ≡ old.numbers → new.buffer ≡ old.buffer
       → new.used ≡ outcomes.TAKE_ROOM → status ≡ statuses.NO_ROOM → Took m moment payload after old new status
   answered : (result : Result Outcome MemberFault) → outcomes.TAKE_ROOM ≤ length old.buffer
       → Takes m moment payload after result → Tells (answer_told result) old new status

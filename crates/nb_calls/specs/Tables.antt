@@ -8,8 +8,8 @@ use Rattle.nb_calls.specs.Outputs.{OrMemory}
 use Rattle.nb_calls.specs.Stations.{table_refusal}
 use Rattle.nb_calls.specs.Statuses.{Refusal, load_refusal}
 use Rattle.std.specs.FinMap as maps
-use Rattle.std.specs.declared.cmp.Ordering.{Ordering}
-use Rattle.std.specs.declared.cmp.Ordering.TheVariants.{Less, Equal, Greater}
+use Rattle.std.specs.Ordering.{ord_min}
+use Rattle.std.specs.declared.cmp.Ordering.TheVariants.{Less}
 use Rattle.nb_datagram.specs.Key.{key_cmp}
 use Rattle.nb_calls.specs.declared.tables.NbtDifference.{NbtDifference}
 
@@ -23,6 +23,10 @@ pub record IsLoaded (input : List ℕ) (limits : Limits) (t : TableValue) : Type
   pub limited : t.limits ≡ limits
   pub keeps : KeepsLimits t
 
+-- IsUnread role input limits refusal: no table of this role is read of the input under these limits, and why
+abbrev pub IsUnread : ℕ → List ℕ → Limits → Refusal → Type 0
+IsUnread role input limits refusal = (fault : LoadFault) × LoadFails input limits fault × (refusal ≡ load_refusal role fault)
+
 -- Joins l s t answer: the join of the tables s and t, saved, if it is taken in under the limits l, else why not; memory may
 -- run out for what is taken in
 abbrev pub Joins : Limits → Contents → Contents → Result (List ℕ) Refusal → Type 0
@@ -33,10 +37,9 @@ Joins l s t (Err refusal) =
 -- OfTwo first second limits Then answer: this is answered of two saved tables: the first is read, then the second, each
 -- under these limits, and then what is said of both
 pub data OfTwo {A : Type 0} (first second : List ℕ) (limits : Limits) (Then : Contents → Contents → Result A Refusal → Type 0) : Result A Refusal → Type 0 where
-  first_fails : (fault : LoadFault) → LoadFails first limits fault
-      → OfTwo first second limits Then (Err (load_refusal statuses.NO_ROLE fault))
-  second_fails : (one : TableValue) (fault : LoadFault) → IsLoaded first limits one → LoadFails second limits fault
-      → OfTwo first second limits Then (Err (load_refusal statuses.SECOND fault))
+  first_fails : (refusal : Refusal) → IsUnread statuses.NO_ROLE first limits refusal → OfTwo first second limits Then (Err refusal)
+  second_fails : (one : TableValue) (refusal : Refusal) → IsLoaded first limits one → IsUnread statuses.SECOND second limits refusal
+      → OfTwo first second limits Then (Err refusal)
   both : (one other : TableValue) (answer : Result A Refusal) → IsLoaded first limits one → IsLoaded second limits other
       → Then one.contents other.contents answer → OfTwo first second limits Then answer
 
@@ -50,7 +53,7 @@ widest = limits_with 4294967295 4294967295 65535
 
 -- OfOne table told answer: this is answered of a saved table: it is read, then what is told of what it holds
 pub data OfOne (table : List ℕ) (told : Contents → List ℕ) : Result (List ℕ) Refusal → Type 0 where
-  not_read : (fault : LoadFault) → LoadFails table widest fault → OfOne table told (Err (load_refusal statuses.NO_ROLE fault))
+  not_read : (refusal : Refusal) → IsUnread statuses.NO_ROLE table widest refusal → OfOne table told (Err refusal)
   read : (t : TableValue) (answer : Result (List ℕ) Refusal) → IsLoaded table widest t → OrMemory (Ok (told t.contents)) answer
       → OfOne table told answer
 
@@ -93,16 +96,10 @@ Compares first second = OfTwo first second widest Differs
 
 -- ---- the search for it
 
--- the first of two keys where it is below the second, else the second
-abbrev pub lower_by : Ordering → Key → Key → Key
-lower_by Less k held = k
-lower_by Equal k held = held
-lower_by Greater k held = held
-
 -- lower_of k least: the lower of the key and of the least so far, if there is one
 abbrev pub lower_of : Key → Option Key → Key
 lower_of k None = k
-lower_of k (Some held) = lower_by (key_cmp k held) k held
+lower_of k (Some held) = ord_min key_cmp held k
 
 -- Narrows t u k least new: at the key k the least difference so far becomes the new one
 pub data Narrows (t u : Contents) (k : Key) (least : Option Key) : Option Key → Type 0 where

@@ -1,8 +1,8 @@
 //! Tables of other stations, taken in by a station.
-ghost use Rattle.std.specs.Prelude.{◌≡◌, ◌++◌, IfOk, OnOk, Ok};
-ghost use Rattle.nb_calls.specs.Absorbing.{Absorbed, Hears, Joined, all_heard, heard_bytes};
+ghost use Rattle.std.specs.Prelude.{◌≡◌, ◌++◌, IfOk, OnOk};
+ghost use Rattle.nb_calls.specs.Absorbing.{Absorbed, Hears, all_heard, heard_bytes};
 
-use crate::output::{Refusal, answer_of, load_refusal, table_refusal};
+use crate::output::{Refusal, answer_of, table_refusal};
 use crate::statuses::NO_ROLE;
 use crate::tables::loaded;
 use nb_datagram::{Datagram, Datagrams};
@@ -22,32 +22,17 @@ pub fn absorb_saved(
 ) -> Result<Bytes, Refusal>
     ensures { Absorbed member.old moment table.now room member.new result }
 {
-    let settings = member.settings();
-    match loaded(
-        alloc,
-        table,
-        settings.keys,
-        settings.per_source,
-        settings.longest,
-    ) {
-        Err(fault) => Err(load_refusal(NO_ROLE, fault)),
-        Ok(other) => join(alloc, member, moment, &other, room),
+    let its = member.settings();
+    let other = loaded(alloc, NO_ROLE, table, its.keys, its.per_source, its.longest)?;
+    let bytes = heard(alloc, member, &other)?;
+    if room < bytes.as_slice().len() {
+        return Ok(bytes);
     }
-}
-
-/// Joins a table to a member's, where there is room for the bytes of what it hands over.
-fn join(
-    alloc: Global,
-    member: &mut Member,
-    moment: u64,
-    other: &Table,
-    room: usize,
-) -> Result<Bytes, Refusal>
-    ensures { Joined member.old moment other.now.contents room member.new result }
-{
-    match heard(alloc, member, other) {
-        Err(refusal) => Err(refusal),
-        Ok(bytes) => join_in_room(member, moment, other, bytes, room),
+    // For the clause; the call does nothing.
+    a_preview_is_what_is_handed_over();
+    match member.absorb(&other, moment) {
+        Err(fault) => Err(table_refusal(fault)),
+        Ok(_) => Ok(bytes),
     }
 }
 
@@ -58,28 +43,6 @@ fn heard(alloc: Global, member: &Member, other: &Table) -> Result<Bytes, Refusal
     match member.preview(other) {
         Err(fault) => Err(table_refusal(fault)),
         Ok(datagrams) => answer_of(bytes_of(alloc, datagrams)),
-    }
-}
-
-/// Joins a table to a member's, where these bytes of what it hands over fit.
-fn join_in_room(
-    member: &mut Member,
-    moment: u64,
-    other: &Table,
-    bytes: Bytes,
-    room: usize,
-) -> Result<Bytes, Refusal>
-    requires { Hears member.old other.now.contents (Ok bytes) }
-    ensures { Joined member.old moment other.now.contents room member.new result }
-{
-    if room < bytes.as_slice().len() {
-        return Ok(bytes);
-    }
-    // For the clause; the call does nothing.
-    a_preview_is_what_is_handed_over();
-    match member.absorb(other, moment) {
-        Err(fault) => Err(table_refusal(fault)),
-        Ok(_) => Ok(bytes),
     }
 }
 

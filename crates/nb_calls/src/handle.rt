@@ -76,7 +76,7 @@ fn none() -> NbtStation
 pub fn let_go(station: NbtStation)
     requires { IsNone station.at }
 {
-    let NbtStation { at: _ } = station;
+    let _at = pointer_of(station);
 }
 
 /// The station, and whether it is none.

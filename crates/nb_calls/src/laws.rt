@@ -76,14 +76,14 @@ pub fn a_datagram_in_bytes()
 /// 1, the port, the moment and the payload of a packet; 2 and what the clock shows of a tick.
 pub fn a_line_in_numbers()
     ensures nothing { line_parts None
-        ≡ record { numbers = record { kind = 0; port = 0; moment = 0 }; payload = [] } }
+        ≡ record { numbers = record { kind = 0; port = 0; moment = 0 }; bytes = [] } }
     ensures packet { (port moment : ℕ) (payload : List ℕ) →
         line_parts (Some (Packet port moment payload)) ≡ record {
           numbers = record { kind = 1; port = port; moment = moment };
-          payload = payload;
+          bytes = payload;
         } }
     ensures tick { (now : ℕ) → line_parts (Some (Tick now))
-        ≡ record { numbers = record { kind = 2; port = 0; moment = now }; payload = [] } }
+        ≡ record { numbers = record { kind = 2; port = 0; moment = now }; bytes = [] } }
 {}
 
 /// Each fault has a status of its own, and its place if it has one. Some share theirs: the unknown
@@ -158,15 +158,11 @@ pub fn five_numbers_are_requests()
 /// The names and the data of a fragment, the code of an error packet and the name of a query stand
 /// in the payload where they are said to stand.
 pub fn parts_stand_at_their_places()
-    ensures source { (payload : List ℕ) (f : FragmentParts) (used : ℕ) →
+    ensures fragment { (payload : List ℕ) (f : FragmentParts) (used : ℕ) →
         IsPacket payload (Direct f) used →
-        StandsAt payload (fragment_places f used).source (name_bytes f.source) }
-    ensures destination { (payload : List ℕ) (f : FragmentParts) (used : ℕ) →
-        IsPacket payload (Direct f) used →
-        StandsAt payload (fragment_places f used).destination (name_bytes f.destination) }
-    ensures bytes { (payload : List ℕ) (f : FragmentParts) (used : ℕ) →
-        IsPacket payload (Direct f) used →
-        StandsAt payload (fragment_places f used).contents f.bytes }
+        StandsAt payload (fragment_places f used).source (name_bytes f.source)
+        × StandsAt payload (fragment_places f used).destination (name_bytes f.destination)
+        × StandsAt payload (fragment_places f used).contents f.bytes }
     ensures code { (payload : List ℕ) (e : ErrorPacket) (used : ℕ) →
         IsPacket payload (Error e) used →
         StandsAt payload (error_places e used).contents (e.code ∷ []) }

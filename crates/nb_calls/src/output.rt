@@ -4,13 +4,7 @@ ghost use Rattle.nb_calls.specs.Outputs.{put_into, put_status, at_refused, refus
 ghost use Rattle.nb_calls.specs.Statuses.{text_refusal, name_refusal, load_refusal, datagram_refusal, service_refusal, session_refusal, line_refusal};
 ghost use Rattle.nb_calls.specs.Stations.{table_refusal};
 
-use crate::statuses::{
-    BAD_LENGTH, BAD_LINE, BAD_TEXT, DESTINATION, DESTINATION_TEXT, DONE, FULL, FULL_SOURCE, LONG,
-    LONG_TEXT, MISPLACED_FIRST, NAME_BAD_POINTER, NAME_LONG, NAME_NOT_NETBIOS, NAME_POINTER,
-    NAME_RDATA, NAME_RESERVED_LABEL, NAME_TRUNCATED, NO_MEMORY, NO_ROLE, NO_ROOM, RESERVED_FLAGS,
-    SECOND, SOURCE, TABLE_BAD_MAGIC, TABLE_FULL, TABLE_FULL_SOURCE, TABLE_LONG,
-    TABLE_NOT_CANONICAL, TABLE_TRUNCATED, TRAILING_BYTES, TRUNCATED, UNKNOWN_TYPE,
-};
+use crate::statuses::*;
 use nb_capture::LineFault;
 use nb_datagram::DatagramFault;
 use nb_names::{NameFault, TextFault};

@@ -1,5 +1,5 @@
 //! Questions and records of the name service, many by one call, with the names in their RDATA.
-ghost use Rattle.std.specs.Prelude.{◌<◌, ◌^◌, length};
+ghost use Rattle.std.specs.Prelude.{◌<◌, ◌^◌};
 ghost use Rattle.nb_calls.specs.Common.{HasHeader, header_value};
 ghost use Rattle.nb_calls.specs.ServiceParts.{FilledFront, ReadsEntries, ReadsEntry, ReadsServer, IsEntry, room_of, spelled_answer};
 
@@ -63,7 +63,7 @@ fn fill_long(
     fill_entries_by(&NameReader::of(payload, &mut ends), number, place, into)
 }
 
-/// The same of a payload whose names are read so.
+/// The same of a payload whose names are read so: one item after the other, while there is room.
 fn fill_entries_by(
     names: &NameReader<'_, '_>,
     number: usize,
@@ -77,42 +77,22 @@ fn fill_entries_by(
     if into.is_empty() {
         return Ok(0);
     }
-    match read_header(names.packet()) {
-        Ok(header) => fill_each(names, &header, number, place, into),
-        Err(fault) => Err(service_refusal(fault)),
-    }
-}
-
-/// Fills in the items of a packet of this header, one after the other, where there is room for one.
-fn fill_each(
-    names: &NameReader<'_, '_>,
-    header: &Header,
-    number: usize,
-    place: usize,
-    into: &mut [NbtServiceEntry],
-) -> Result<usize, Refusal>
-    requires header { HasHeader names.now (header_value header.now) }
-    requires number { number < 2 ^ 32 }
-    requires room { 0 < length into.old }
-    ensures { FilledFront (ReadsEntries names.now number place (room_of into.old))
-        into.old into.new result }
-{
+    let header = match read_header(names.packet()) {
+        Ok(header) => header,
+        Err(fault) => return Err(service_refusal(fault)),
+    };
     let room = into.len().min(MOST_ITEMS);
     let mut count = 0;
     let mut at = place;
     'entries: while count < room {
-        match entry_at(names, header, number + count, at) {
+        match entry_at(names, &header, number + count, at) {
             Ok(entry) => {
                 into[count] = entry;
                 at = entry.item.next;
                 count += 1;
             }
-            Err(refusal) => {
-                if count == 0 {
-                    return Err(refusal);
-                }
-                return Ok(count);
-            }
+            Err(refusal) if count == 0 => return Err(refusal),
+            Err(_) => return Ok(count),
         }
     }
     Ok(count)

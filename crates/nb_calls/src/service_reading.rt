@@ -5,8 +5,8 @@ ghost use Rattle.nb_calls.specs.Outputs.{FilledIn, Fills};
 ghost use Rattle.nb_calls.specs.Services.{ReadsHeader, ReadsItem, ReadsPacket, header_numbers, netbios_number, numbers, section_number};
 
 use crate::names::spell_domain;
-use crate::output::{Refusal, finish, service_refusal};
-use crate::statuses::NO_ITEM;
+use crate::output::{Refusal, refuse, service_refusal};
+use crate::statuses::{DONE, NO_ITEM};
 use nb_names::NameReader;
 use nb_names::laws::one_reading;
 use nb_names::limits::{LETTERS, MAX_SPELLING, POINTED_OFFSETS};
@@ -94,27 +94,18 @@ pub fn read_long(payload: &[u8], header: &mut NbtServiceHeader, at: &mut usize) 
     fill_packet(&NameReader::of(payload, &mut ends), header, at)
 }
 
-/// Fills in the header and the length of the packet whose names are read so.
+/// Fills in the header and the length of the packet whose names are read so. Nothing of the header
+/// is kept while the items are judged.
 #[inline(always)]
-#[tactic(auto, using(crate::proofs::AnswerLemmas::finishes))]
 pub fn fill_packet(names: &NameReader<'_, '_>, header: &mut NbtServiceHeader, at: &mut usize) -> u32
     ensures { Fills (ReadsPacket names.now) header.old header.new at.old at.new result }
 {
-    finish(judge(names, header), at)
-}
-
-/// The same, or why there is no packet. Nothing of the header is kept while the items are judged.
-#[inline(always)]
-fn judge(names: &NameReader<'_, '_>, into: &mut NbtServiceHeader) -> Result<(), Refusal>
-    ensures { FilledIn (ReadsPacket names.now) into.old into.new result }
-{
     match outline(names) {
         Ok((_, used)) => {
-            let header = read_header(names.packet()).unwrap();
-            *into = header_numbers(&header, used);
-            Ok(())
+            *header = header_numbers(&read_header(names.packet()).unwrap(), used);
+            DONE
         }
-        Err(fault) => Err(service_refusal(fault)),
+        Err(fault) => refuse(service_refusal(fault), at),
     }
 }
 

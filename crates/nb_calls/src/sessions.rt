@@ -132,17 +132,15 @@ pub fn retarget_in(bytes: &[u8]) -> Result<NbtSessionRetarget, Refusal>
 pub fn packet_of(alloc: Global, packet_type: u8, body: &[u8]) -> Result<Bytes, Refusal>
     ensures { WritesPacket packet_type body.now result }
 {
-    match Kind::of_type(packet_type) {
-        None => Err(Refusal::Fault(UNKNOWN_TYPE)),
-        Some(kind) => {
-            if body.len() > MAX_MESSAGE {
-                return Err(Refusal::Fault(BAD_LENGTH));
-            }
-            match frame(alloc, kind, body) {
-                Ok(bytes) => judge(bytes),
-                Err(_) => Err(Refusal::Memory),
-            }
-        }
+    let Some(kind) = Kind::of_type(packet_type) else {
+        return Err(Refusal::Fault(UNKNOWN_TYPE));
+    };
+    if body.len() > MAX_MESSAGE {
+        return Err(Refusal::Fault(BAD_LENGTH));
+    }
+    match frame(alloc, kind, body) {
+        Ok(bytes) => judge(bytes),
+        Err(_) => Err(Refusal::Memory),
     }
 }
 

@@ -1,8 +1,8 @@
 //! The texts of packets, their phrases and JSON objects, and the lines of captures.
 ghost use Rattle.std.specs.Prelude.{IfOk, ◌≡◌, Ok};
 ghost use Rattle.nb_calls.specs.Common.{IsSaid, Shown};
-ghost use Rattle.nb_calls.specs.Outputs.{Answers, of_memory, lent};
-ghost use Rattle.nb_calls.specs.Captures.{WritesLine, line_answer, line_lent};
+ghost use Rattle.nb_calls.specs.Outputs.{Answers, lent, lent_with, of_memory};
+ghost use Rattle.nb_calls.specs.Captures.{WritesLine, line_answer};
 
 use crate::output::{line_refusal, put, status_of};
 use crate::statuses::NO_MEMORY;
@@ -69,8 +69,8 @@ pub fn tell_line(
     into: &mut [u8],
     used: &mut usize,
 ) -> u32
-    ensures { WritesLine (line_answer read.now) (line_lent said.old into.old used.old)
-        (line_lent said.new into.new used.new) result }
+    ensures { WritesLine (line_answer read.now) (lent_with said.old into.old used.old)
+        (lent_with said.new into.new used.new) result }
 {
     match read {
         Ok(None) => put_line(numbers(BLANK, 0, 0), &[], said, into, used),
@@ -104,8 +104,8 @@ fn put_line(
     into: &mut [u8],
     used: &mut usize,
 ) -> u32
-    ensures { WritesLine (Ok (record { numbers = numbers; payload = payload.now }))
-        (line_lent said.old into.old used.old) (line_lent said.new into.new used.new) result }
+    ensures { WritesLine (Ok (record { numbers = numbers; bytes = payload.now }))
+        (lent_with said.old into.old used.old) (lent_with said.new into.new used.new) result }
 {
     if payload.len() <= into.len() {
         *said = numbers;

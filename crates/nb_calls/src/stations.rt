@@ -1,7 +1,7 @@
 //! Stations: made of names, shown the clock, saved, listed and given back.
 ghost use Rattle.std.specs.Prelude.{◌≡◌, ◌+◌, ◌<◌, ◌++◌, ◌∷◌, Contains, MatchOption, length};
-ghost use Rattle.nb_calls.specs.Common.{w32, to_be_bytes, slice_split, new_member};
-ghost use Rattle.nb_calls.specs.Stations.{IsCreated, Names, NamesText, is_space, texts_in};
+ghost use Rattle.nb_calls.specs.Common.{w32, to_be_bytes, new_member};
+ghost use Rattle.nb_calls.specs.Stations.{IsCreated, Names, NamesText, texts_in};
 
 use crate::handle::{Kept, Parts, hide, pointer_of};
 use crate::names::name_of_text;
@@ -59,30 +59,19 @@ pub fn create(alloc: Global, member: Member, station: &mut *mut ()) -> u32
 pub fn names_of(alloc: Global, texts: &[u8]) -> Result<LocalNames, Refusal>
     ensures { Names (texts_in texts.now) result }
 {
-    if texts.is_empty() {
-        return Ok(LocalNames::new(alloc));
-    }
-    names_between(alloc, texts)
-}
-
-/// The names whose texts stand between spaces.
-fn names_between(alloc: Global, texts: &[u8]) -> Result<LocalNames, Refusal>
-    ensures { Names (slice_split is_space texts.now) result }
-{
     let mut names = LocalNames::new(alloc);
+    if texts.is_empty() {
+        return Ok(names);
+    }
     let mut rest = texts;
     let mut place = 0;
     while let Some((text, others)) = at_space(rest) {
-        if let Err(refusal) = add(text, place, &mut names) {
-            return Err(refusal);
-        }
+        add(text, place, &mut names)?;
         place += text.len() + 1;
         rest = others;
     }
-    match add(rest, place, &mut names) {
-        Ok(()) => Ok(names),
-        Err(refusal) => Err(refusal),
-    }
+    add(rest, place, &mut names)?;
+    Ok(names)
 }
 
 /// What stands before the first space, and what after it; `None` where there is none.

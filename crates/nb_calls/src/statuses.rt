@@ -20,92 +20,84 @@ pub const SECOND: u32 = 10;
 
 /// Done.
 pub const DONE: u32 = 0;
-/// No room.
-pub const NO_ROOM: u32 = 1;
-/// Memory.
-pub const NO_MEMORY: u32 = 2;
 
-/// Bad text.
-pub const BAD_TEXT: u32 = 10;
-/// Text too long.
-pub const LONG_TEXT: u32 = 11;
+pub(crate) const NO_ROOM: u32 = 1;
 
-/// Name: truncated.
-pub const NAME_TRUNCATED: u32 = 20;
-/// Name: reserved label.
-pub const NAME_RESERVED_LABEL: u32 = 21;
-/// Name: pointer not allowed.
-pub const NAME_POINTER: u32 = 22;
-/// Name: too long.
-pub const NAME_LONG: u32 = 23;
-/// Name: not netbios.
-pub const NAME_NOT_NETBIOS: u32 = 24;
-/// Name: trailing bytes.
-pub const NAME_TRAILING_BYTES: u32 = 25;
-/// Name: bad pointer.
-pub const NAME_BAD_POINTER: u32 = 26;
+pub(crate) const NO_MEMORY: u32 = 2;
 
-/// Truncated.
-pub const TRUNCATED: u32 = 50;
-/// Unknown type.
-pub const UNKNOWN_TYPE: u32 = 51;
-/// More bytes needed.
-pub const MORE: u32 = 52;
-/// Reserved flags.
-pub const RESERVED_FLAGS: u32 = 53;
-/// Bad length.
-pub const BAD_LENGTH: u32 = 54;
-/// Trailing bytes.
-pub const TRAILING_BYTES: u32 = 55;
-/// Name rdata.
-pub const NAME_RDATA: u32 = 56;
-/// No item.
-pub const NO_ITEM: u32 = 57;
-/// Other rdata.
-pub const OTHER_RDATA: u32 = 58;
-/// No part.
-pub const NO_PART: u32 = 59;
-/// Unknown request.
-pub const UNKNOWN_REQUEST: u32 = 60;
-/// Zero piece.
-pub const ZERO_PIECE: u32 = 61;
-/// Data too long.
-pub const LONG_DATA: u32 = 62;
+pub(crate) const BAD_TEXT: u32 = 10;
 
-/// Table: bad magic.
-pub const TABLE_BAD_MAGIC: u32 = 70;
-/// Table: truncated.
-pub const TABLE_TRUNCATED: u32 = 71;
-/// Table: not canonical.
-pub const TABLE_NOT_CANONICAL: u32 = 72;
-/// Table: too long.
-pub const TABLE_LONG: u32 = 73;
-/// Table: full source.
-pub const TABLE_FULL_SOURCE: u32 = 74;
-/// Table: full.
-pub const TABLE_FULL: u32 = 75;
+pub(crate) const LONG_TEXT: u32 = 11;
 
-/// Misplaced first.
-pub const MISPLACED_FIRST: u32 = 90;
-/// Too long.
-pub const LONG: u32 = 91;
-/// Full source.
-pub const FULL_SOURCE: u32 = 92;
-/// Full.
-pub const FULL: u32 = 93;
+pub(crate) const NAME_TRUNCATED: u32 = 20;
 
-/// Name: present.
-pub const NAME_PRESENT: u32 = 100;
-/// Too many names.
-pub const TOO_MANY_NAMES: u32 = 101;
+pub(crate) const NAME_RESERVED_LABEL: u32 = 21;
+
+pub(crate) const NAME_POINTER: u32 = 22;
+
+pub(crate) const NAME_LONG: u32 = 23;
+
+pub(crate) const NAME_NOT_NETBIOS: u32 = 24;
+
+pub(crate) const NAME_TRAILING_BYTES: u32 = 25;
+
+pub(crate) const NAME_BAD_POINTER: u32 = 26;
+
+pub(crate) const TRUNCATED: u32 = 50;
+
+pub(crate) const UNKNOWN_TYPE: u32 = 51;
+
+pub(crate) const MORE: u32 = 52;
+
+pub(crate) const RESERVED_FLAGS: u32 = 53;
+
+pub(crate) const BAD_LENGTH: u32 = 54;
+
+pub(crate) const TRAILING_BYTES: u32 = 55;
+
+pub(crate) const NAME_RDATA: u32 = 56;
+
+pub(crate) const NO_ITEM: u32 = 57;
+
+pub(crate) const OTHER_RDATA: u32 = 58;
+
+pub(crate) const NO_PART: u32 = 59;
+
+pub(crate) const UNKNOWN_REQUEST: u32 = 60;
+
+pub(crate) const ZERO_PIECE: u32 = 61;
+
+pub(crate) const LONG_DATA: u32 = 62;
+
+pub(crate) const TABLE_BAD_MAGIC: u32 = 70;
+
+pub(crate) const TABLE_TRUNCATED: u32 = 71;
+
+pub(crate) const TABLE_NOT_CANONICAL: u32 = 72;
+
+pub(crate) const TABLE_LONG: u32 = 73;
+
+pub(crate) const TABLE_FULL_SOURCE: u32 = 74;
+
+pub(crate) const TABLE_FULL: u32 = 75;
+
+pub(crate) const MISPLACED_FIRST: u32 = 90;
+
+pub(crate) const LONG: u32 = 91;
+
+pub(crate) const FULL_SOURCE: u32 = 92;
+
+pub(crate) const FULL: u32 = 93;
+
+pub(crate) const NAME_PRESENT: u32 = 100;
+
+pub(crate) const TOO_MANY_NAMES: u32 = 101;
 /// No station.
 pub const NO_STATION: u32 = 102;
 
-/// Other type.
-pub const OTHER_TYPE: u32 = 110;
+pub(crate) const OTHER_TYPE: u32 = 110;
 
-/// Bad line.
-pub const BAD_LINE: u32 = 120;
+pub(crate) const BAD_LINE: u32 = 120;
 
 /// Unknown status.
 pub const UNKNOWN_STATUS: u32 = 255;

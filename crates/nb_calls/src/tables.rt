@@ -1,8 +1,8 @@
 //! Saved tables: joined, listed and compared.
-ghost use Rattle.std.specs.Prelude.{◌≡◌, IfOk, IfErr};
-ghost use Rattle.nb_calls.specs.Common.{LoadFails, listing};
+ghost use Rattle.std.specs.Prelude.{◌≡◌, ◌≤◌, IfOk, MatchResult};
+ghost use Rattle.nb_calls.specs.Common.{SECOND, listing};
 ghost use Rattle.std.specs.FinMap as maps;
-ghost use Rattle.nb_calls.specs.Tables.{Joins, Merges, OfOne, listed_as, Compares, IsLeastDifference, Narrows, NarrowsBy, difference_of, limits_with, lower_of, IsLoaded};
+ghost use Rattle.nb_calls.specs.Tables.{Compares, IsLoaded, IsUnread, Merges, Narrows, NarrowsBy, OfOne, difference_of, limits_with, listed_as};
 
 use crate::output::{Refusal, answer_of, load_refusal, table_refusal};
 use crate::stations::LONGEST;
@@ -10,9 +10,8 @@ use crate::statuses::{NO_ROLE, SECOND};
 use nb_datagram::Key;
 use nb_member::{list_keys, list_objects};
 use nb_streams::{Bytes, NoMemory};
-use nb_table::{LoadFault, Table, load};
+use nb_table::{Table, load};
 use std::alloc::Global;
-use std::cmp::Ordering;
 
 /// The join of two saved tables, saved.
 pub fn merged(
@@ -24,19 +23,8 @@ pub fn merged(
 ) -> Result<Bytes, Refusal>
     ensures { Merges first.now second.now (limits_with keys per_source 65535) result }
 {
-    match loaded(alloc, first, keys, per_source, LONGEST) {
-        Err(fault) => Err(load_refusal(NO_ROLE, fault)),
-        Ok(mut table) => match loaded(alloc, second, keys, per_source, LONGEST) {
-            Err(fault) => Err(load_refusal(SECOND, fault)),
-            Ok(other) => joined(&mut table, other),
-        },
-    }
-}
-
-/// The join of a table and another, saved.
-fn joined(table: &mut Table, other: Table) -> Result<Bytes, Refusal>
-    ensures { Joins table.old.limits table.old.contents other.contents result }
-{
+    let mut table = loaded(alloc, NO_ROLE, first, keys, per_source, LONGEST)?;
+    let other = loaded(alloc, SECOND, second, keys, per_source, LONGEST)?;
     match table.take_in(other) {
         Err(fault) => Err(table_refusal(fault)),
         Ok(_) => answer_of(table.save()),
@@ -47,10 +35,8 @@ fn joined(table: &mut Table, other: Table) -> Result<Bytes, Refusal>
 pub fn listed(alloc: Global, table: &[u8], json: bool) -> Result<Bytes, Refusal>
     ensures { OfOne table.now (listed_as json) result }
 {
-    match loaded(alloc, table, u32::MAX, u32::MAX, LONGEST) {
-        Err(fault) => Err(load_refusal(NO_ROLE, fault)),
-        Ok(table) => answer_of(listed_of(alloc, &table, json)),
-    }
+    let table = loaded(alloc, NO_ROLE, table, u32::MAX, u32::MAX, LONGEST)?;
+    answer_of(listed_of(alloc, &table, json))
 }
 
 /// The objects of a table's keys, or their lines.
@@ -89,13 +75,10 @@ pub struct NbtDifference {
 pub fn compared(alloc: Global, first: &[u8], second: &[u8]) -> Result<NbtDifference, Refusal>
     ensures { Compares first.now second.now result }
 {
-    match loaded(alloc, first, u32::MAX, u32::MAX, LONGEST) {
-        Err(fault) => Err(load_refusal(NO_ROLE, fault)),
-        Ok(one) => match loaded(alloc, second, u32::MAX, u32::MAX, LONGEST) {
-            Err(fault) => Err(load_refusal(SECOND, fault)),
-            Ok(other) => Ok(difference_of(least_difference(&one, &other))),
-        },
-    }
+    let one = loaded(alloc, NO_ROLE, first, u32::MAX, u32::MAX, LONGEST)?;
+    let other = loaded(alloc, SECOND, second, u32::MAX, u32::MAX, LONGEST)?;
+    let least = least_of(&one, &one, &other, None);
+    Ok(difference_of(least_of(&other, &one, &other, least)))
 }
 
 /// The numbers of the key at which tables differ.
@@ -111,14 +94,6 @@ fn difference_of(least: Option<Key>) -> NbtDifference
             differ: 1,
         },
     }
-}
-
-/// The least key at which two tables differ, if they do.
-fn least_difference(one: &Table, other: &Table) -> Option<Key>
-    ensures { IsLeastDifference one.now.contents other.now.contents result }
-{
-    let least = least_of(one, one, other, None);
-    least_of(other, one, other, least)
 }
 
 /// The least of a key, if there is one, and of those of a table's keys at which two tables differ.
@@ -140,36 +115,31 @@ fn narrowed(one: &Table, other: &Table, key: Key, least: Option<Key>) -> Option<
     if one.same_at(other, &key) {
         return least;
     }
-    Some(lower_of(key, least))
-}
-
-/// The lower of a key and of the least one so far, if there is one.
-fn lower_of(key: Key, least: Option<Key>) -> Key
-    ensures { result ≡ lower_of key least }
-{
     match least {
-        None => key,
-        Some(held) => match key.cmp(&held) {
-            Ordering::Less => key,
-            Ordering::Equal => held,
-            Ordering::Greater => held,
-        },
+        None => Some(key),
+        Some(held) => Some(held.min(key)),
     }
 }
 
-/// The table whose saved bytes these are, with these limits, which it keeps.
+/// The table of this role whose saved bytes these are, with these limits, which it keeps.
 pub(crate) fn loaded(
     alloc: Global,
+    role: u32,
     input: &[u8],
     keys: u32,
     per_source: u32,
     longest: u16,
-) -> Result<Table, LoadFault>
-    ensures found { IfOk result (IsLoaded input.now (limits_with keys per_source longest)) }
-    ensures fault { IfErr result (LoadFails input.now (limits_with keys per_source longest)) }
+) -> Result<Table, Refusal>
+    requires { role ≤ SECOND }
+    ensures { MatchResult result (IsLoaded input.now (limits_with keys per_source longest))
+        (IsUnread role input.now (limits_with keys per_source longest)) }
 {
-    let table = load(alloc, input, keys, per_source, longest)?;
-    // For the clause; the call does nothing.
-    let _count = table.len();
-    Ok(table)
+    match load(alloc, input, keys, per_source, longest) {
+        Ok(table) => {
+            // For the clause; the call does nothing.
+            let _count = table.len();
+            Ok(table)
+        }
+        Err(fault) => Err(load_refusal(role, fault)),
+    }
 }

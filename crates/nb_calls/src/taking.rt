@@ -1,7 +1,8 @@
 //! Payloads that a station takes, and what becomes of each.
 ghost use Rattle.std.specs.Prelude.{◌≤◌, length, ◌≡◌, ◌++◌};
 ghost use Rattle.nb_calls.specs.Common.{TAKE_ROOM, packet_bytes, Error};
-ghost use Rattle.nb_calls.specs.Stations.{Fronted, Took, lent_for, told_of, told_refused, delivered_bytes, error_bytes};
+ghost use Rattle.nb_calls.specs.Outputs.{lent_with};
+ghost use Rattle.nb_calls.specs.Stations.{Fronted, Took, told_of, told_refused, delivered_bytes, error_bytes};
 
 use crate::output::{datagram_refusal, refuse, status_of, table_refusal};
 use crate::statuses::{DONE, NO_ROOM};
@@ -20,8 +21,8 @@ pub fn take(
     into: &mut [u8],
     used: &mut usize,
 ) -> u32
-    ensures { Took member.old moment payload.now member.new (lent_for taken.old into.old used.old)
-        (lent_for taken.new into.new used.new) result }
+    ensures { Took member.old moment payload.now member.new (lent_with taken.old into.old used.old)
+        (lent_with taken.new into.new used.new) result }
 {
     if into.len() < TAKE_ROOM {
         *used = TAKE_ROOM;

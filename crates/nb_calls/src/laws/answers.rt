@@ -89,6 +89,7 @@ pub fn services_have_one_answer()
 }
 
 /// Each part of RDATA has one answer.
+#[tactic(auto, using(crate::proofs::DomainLemmas::one_domain))]
 pub fn rdata_has_one_answer()
     ensures address { (kind : ℕ) (bytes : List ℕ) (number : ℕ) →
         HasOne (ReadsAddress kind bytes number) }

@@ -1,4 +1,5 @@
-use Rattle.nb_calls.proofs.Common.{◌≡◌, ℕ, length, subst, arith, Refused, NameAt, whole, no_name, bytes_trail}
+use Rattle.nb_calls.proofs.Common.{◌≡◌, ℕ, length, subst, arith, Refused, NameAt}
+use Rattle.nb_calls.specs.Names.{whole, no_name, bytes_trail}
 use Rattle.nb_calls.proofs.service.domain_of.Goals as goal
 
 pub returns-then-next-bytes : goal.returns-then-next-bytes

@@ -2,8 +2,8 @@ use Rattle.nb_calls.proofs.Common.{ℕ, List, subst}
 use Rattle.nb_calls.specs.Sessions.{Stands, unknown_type, too_long, lacks, judged}
 use Rattle.nb_calls.proofs.sessions.packet_of.Goals as goal
 
-pub returns-in-None : goal.returns-in-None
-returns-in-None c = unknown_type c.in-None.ensures
+pub returns-in_default : goal.returns-in_default
+returns-in_default c = unknown_type c.in_default.ensures
 
 pub returns-then-body-gt-MAX_MESSAGE : goal.returns-then-body-gt-MAX_MESSAGE
 returns-then-body-gt-MAX_MESSAGE c = too_long c.in-Some.kind c.in-Some.ensures c.if-body-gt-MAX_MESSAGE.true

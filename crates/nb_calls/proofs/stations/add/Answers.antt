@@ -1,7 +1,4 @@
-use Rattle.nb_calls.proofs.Common.{◌≡◌, ◌+◌, List, length, Err, subst, arith, NetbiosName, IsFaultOf, TextFault, BadText, TooLong, AreNames, bad, present, too_many, more}
-use Rattle.nb_member.specs.declared.local_names.AddFault.{AddFault}
-use Rattle.nb_member.specs.declared.local_names.AddFault.TheVariants.{Present, TooMany, NoMemory}
-use Rattle.nb_member.specs.Hearing.{Adds}
+use Rattle.nb_calls.proofs.Common.{◌≡◌, ◌+◌, List, length, subst, arith, NetbiosName, BadText, TooLong, AreNames, bad, present, too_many, more}
 use Rattle.nb_calls.proofs.stations.add.Goals as goal
 
 pub returns-in-Ok-add : goal.returns-in-Ok-add
@@ -14,29 +11,21 @@ returns-in-Ok-add c =
 
 pub returns-in-Err-Present : goal.returns-in-Err-Present
 returns-in-Err-Present c words =
-    let held : Adds c.args.names.now c.in-Ok.name c.add.new.self (Err Present) =
-    subst (λ (f : AddFault). Adds c.args.names.now c.in-Ok.name c.add.new.self (Err f)) c.in-Err-Present.field-0-is c.in-Err-Present.ensures in
-    present c.in-Ok.name c.in-Ok.ensures held.0
+    let held = rw c.in-Err-Present.field-0-is at c.in-Err-Present.ensures in present c.in-Ok.name c.in-Ok.ensures held.0
 
 pub returns-in-Err-TooMany : goal.returns-in-Err-TooMany
 returns-in-Err-TooMany c words =
-    let full : Adds c.args.names.now c.in-Ok.name c.add.new.self (Err TooMany) =
-    subst (λ (f : AddFault). Adds c.args.names.now c.in-Ok.name c.add.new.self (Err f)) c.in-Err-TooMany.field-0-is c.in-Err-TooMany.ensures in
-    too_many c.in-Ok.name c.in-Ok.ensures full.0 full.1
+    let full = rw c.in-Err-TooMany.field-0-is at c.in-Err-TooMany.ensures in too_many c.in-Ok.name c.in-Ok.ensures full.0 full.1
 
 pub returns-in-Err-NoMemory : goal.returns-in-Err-NoMemory
 returns-in-Err-NoMemory c =
-    let lacks : Adds c.args.names.now c.in-Ok.name c.add.new.self (Err NoMemory) =
-    subst (λ (f : AddFault). Adds c.args.names.now c.in-Ok.name c.add.new.self (Err f)) c.in-Err-NoMemory.field-0-is c.in-Err-NoMemory.ensures in
-    ((c.in-Ok.name, c.in-Ok.ensures), lacks.2)
+    let lacks = rw c.in-Err-NoMemory.field-0-is at c.in-Err-NoMemory.ensures in ((c.in-Ok.name, c.in-Ok.ensures), lacks.2)
 
 pub returns-in-Err-BadText : goal.returns-in-Err-BadText
 returns-in-Err-BadText c words =
-    let fails : IsFaultOf c.args.text.now (BadText c.in-Err-BadText.at) =
-    subst (λ (f : TextFault). IsFaultOf c.args.text.now f) c.in-Err-BadText.field-0-is c.in-Err-BadText.ensures in
+    let fails = rw c.in-Err-BadText.field-0-is at c.in-Err-BadText.ensures in
     let exact : c.saturating_add.result ≡ c.args.place + c.in-Err-BadText.at = grind (arith, c.saturating_add.ensures, fails.1.within, c.requires) in
     rw exact (bad (BadText c.in-Err-BadText.at) fails)
 
 pub returns-in-Err-TooLong : goal.returns-in-Err-TooLong
-returns-in-Err-TooLong c words =
-    bad TooLong (subst (λ (f : TextFault). IsFaultOf c.args.text.now f) c.in-Err-TooLong.field-0-is c.in-Err-TooLong.ensures)
+returns-in-Err-TooLong c words = bad TooLong (rw c.in-Err-TooLong.field-0-is at c.in-Err-TooLong.ensures)

@@ -1,7 +1,5 @@
-use Rattle.nb_calls.proofs.Common.{Ok, Err, ap, refl, subst, refused_status, ◌∙◌}
-use Rattle.nb_member.specs.declared.outcome.MemberFault.{MemberFault}
+use Rattle.nb_calls.proofs.Common.{Ok, Err, ap, refl, refused_status, ◌∙◌}
 use Rattle.nb_member.specs.declared.outcome.MemberFault.TheVariants.{Packet, Table}
-use Rattle.nb_member.specs.Taking.{Takes}
 use Rattle.nb_calls.specs.Stations.{answered}
 use Rattle.nb_calls.proofs.taking.take.Goals as goal
 
@@ -13,11 +11,11 @@ returns-in-Ok c =
 pub returns-in-Err-Packet : goal.returns-in-Err-Packet
 returns-in-Err-Packet c =
     answered (Err (Packet c.in-Err-Packet.fault c.in-Err-Packet.error)) c.if-into-lt-TAKE_ROOM.false
-    (subst (λ (f : MemberFault). Takes c.args.member.now c.args.moment c.args.payload.now c.take.new.self (Err f)) c.in-Err-Packet.field-0-is c.in-Err-Packet.ensures)
+    (rw c.in-Err-Packet.field-0-is at c.in-Err-Packet.ensures)
     (c.tell_refused.ensures.numbers, c.tell_refused.ensures.bytes.0, c.tell_refused.ensures.bytes.1, refl)
 
 pub returns-in-Err-Table : goal.returns-in-Err-Table
 returns-in-Err-Table c =
     answered (Err (Table c.in-Err-Table.fault)) c.if-into-lt-TAKE_ROOM.false
-    (subst (λ (f : MemberFault). Takes c.args.member.now c.args.moment c.args.payload.now c.take.new.self (Err f)) c.in-Err-Table.field-0-is c.in-Err-Table.ensures)
+    (rw c.in-Err-Table.field-0-is at c.in-Err-Table.ensures)
     (refl, refl, refl, c.status_of.ensures ∙ ap refused_status c.table_refusal.ensures)

@@ -1,6 +1,6 @@
 use Rattle.nb_calls.proofs.Common.{length}
 use Rattle.nb_calls.proofs.StationNameLemmas.{IsNaming}
-use Rattle.nb_calls.proofs.stations.names_between.Given as goal
+use Rattle.nb_calls.proofs.stations.names_of.Given as goal
 
 abbrev pub invariant-loop-text : goal.invariant-loop-text
 invariant-loop-text l = IsNaming l.texts l.rest l.place l.names

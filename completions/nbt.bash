@@ -27,9 +27,8 @@ complete -F _nbt nbt
 _nbt_tool() {
     local words=''
     case ${1##*/} in
-    nbt-look) words='--quiet --name --host --port --kind -c --time --color --json -r --help --version' ;;
+    nbt-look) words='--quiet --name --host --port --kind -c --time --color --json --lines --bare --no-ticks --cut -r --help --version' ;;
     nbt-look-tshark) words='-i --live --summary --frame --json --html --name --host --port --kind --time --color --quiet --version -r --help' ;;
-    nbt-pcap2cap) words='--bare --no-ticks --cut --quiet --port --live -i --help' ;;
     nbt-cap2pcap) words='--help' ;;
     nbt-dask) words='--force --program --shard-bytes --by-source --tables --quiet --scheduler --workers --send --wait --help' ;;
     nbt-station) words='--bind --port --address --keys --per-source --json --save --pid --join --help' ;;
@@ -37,4 +36,4 @@ _nbt_tool() {
     COMPREPLY=()
     [[ $2 != -* ]] || COMPREPLY=($(compgen -W "$words" -- "$2"))
 }
-complete -o default -F _nbt_tool nbt-look nbt-look-tshark nbt-pcap2cap nbt-cap2pcap nbt-dask nbt-station
+complete -o default -F _nbt_tool nbt-look nbt-look-tshark nbt-cap2pcap nbt-dask nbt-station

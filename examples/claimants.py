@@ -1,6 +1,6 @@
 #!/usr/bin/env python3
 """Prints the names that several nodes claim for themselves, and their addresses. A capture comes on standard input:
-nbt-pcap2cap office.pcap | claimants.py"""
+nbt-look --lines office.pcap | claimants.py"""
 import sys
 
 import nbt

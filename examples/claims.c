@@ -1,5 +1,5 @@
 /* Prints the names that packets of port 137 claim, and the address for which each does. A capture comes on standard input:
- *     nbt-pcap2cap office.pcap | ./claims
+ *     nbt-look --lines office.pcap | ./claims
  * cc -o claims claims.c $(pkg-config --cflags --libs nbt) compiles it. */
 #define _POSIX_C_SOURCE 200809L
 #include <nbt.h>

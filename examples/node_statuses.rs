@@ -1,6 +1,6 @@
 //! Prints what each node status response of port 137 says: the unit of the node, and its names. A capture comes on standard
 //! input:
-//!     nbt-pcap2cap samba.pcap | cargo run
+//!     nbt-look --lines samba.pcap | cargo run
 //! in a program of which this is src/main.rs, and whose Cargo.toml has a line for nbt, as docs/CALLING.md says.
 
 use std::io::{self, BufRead, Write};

@@ -11,7 +11,7 @@ import sys
 
 HERE = os.path.dirname(os.path.abspath(__file__))
 BUILT = [os.path.join(HERE, '..', 'crates', *each) for each in (('nbt', 'out', 'nbt'), ('nbt_look', 'out', 'nbt_look'))]
-TOOLS = 'nbt-look-tshark', 'nbt-pcap2cap', 'nbt-cap2pcap', 'nbt-dask', 'nbt-station'
+TOOLS = 'nbt-look-tshark', 'nbt-cap2pcap', 'nbt-dask', 'nbt-station'
 WRITTEN = 'Completion of nbt and its tools. tools/completions.py wrote it from their help texts.'
 
 COMMAND = re.compile(r'^  ([a-z]+) +(.*)', re.MULTILINE)

@@ -1,5 +1,5 @@
 /* What becomes of the payloads of port 138: a station of the library takes each fragment once, in the order of the frames, and is
- * shown the clock as `nbt replay` is by the ticks of `nbt-pcap2cap`: each second that begins since the file's first frame. The station
+ * shown the clock as `nbt replay` is by the ticks of `nbt-look --lines`: each second that begins since the file's first frame. The station
  * judges that fragments agree, and when they are all there; here their data is put together, and which bytes are missing of a datagram
  * that the file leaves incomplete.
  */

@@ -19,7 +19,7 @@ OF_TSHARK = {
     '-Y': '--name, --host, --port and --kind choose packets', '-R': '--name, --host, --port and --kind choose packets',
     '-f': '--name, --host, --port and --kind choose packets', '-T': '--json prints an object of JSON for each packet',
     '-e': '--json prints an object of JSON for each packet', '-V': '--frame N prints all of a packet', '-x': '--frame N prints all of a packet',
-    '-w': '--html PAGE writes a page, and nbt-pcap2cap the text of a capture', '-t': '--time start and --time utc say how times are printed'}
+    '-w': '--html PAGE writes a page, and nbt-look --lines the text of a capture', '-t': '--time start and --time utc say how times are printed'}
 
 
 def options_of(words):

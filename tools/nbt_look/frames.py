@@ -45,12 +45,10 @@ class Noted(Report):
 class Frames(Reader):
     """Makes items of the rows, in the order in which it is known what becomes of them."""
 
-    passes_cut = True
-
     def __init__(self, options, times):
         self.items = []
         self.needs_segments = options.summary or bool(options.names)
-        super().__init__(options, None, Noted(self.items))
+        super().__init__(options, Noted(self.items))
         self.times = times
         self.protocols = ''          # those of the first frame
         self.named = None, None      # the latest interface, and what is printed of it

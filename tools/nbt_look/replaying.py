@@ -1,12 +1,11 @@
 """`nbt replay` as a child: what becomes of the pieces of datagrams. What it reports counts, and nothing beside it."""
 import subprocess
 
-from nbt_pcap.capture import NO_LIMIT
 from nbt_pcap.header import MOST_KEYS
 from nbt_pcap.process import Stopped
 
 from .pieces import Piece, Pieces
-from .telling import READ, Child, exchange
+from .telling import NO_LIMIT, READ, Child, exchange
 from .vocabulary import PIECES
 
 # A station that has this name alone: whether it hears a datagram or not, the report says when one is whole.

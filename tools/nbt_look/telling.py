@@ -5,7 +5,6 @@ import select
 import subprocess
 from json.decoder import JSONDecoder
 
-from nbt_pcap.capture import NO_LIMIT
 from nbt_pcap.process import Stopped
 from nbt_pcap.tshark import end_with_us
 
@@ -14,6 +13,8 @@ from .items import Cut, Packet
 
 # How many bytes wait for the children before no more packets are read.
 MOST_WAITING = 1_048_576
+# How many bytes nbt reads of one input at most.
+NO_LIMIT = 18_446_744_073_709_551_615
 PART = 262_144
 # What the children are asked: of packets a phrase, of fronts what stands of them.
 WHOLE, FRONT = '--brief', '--partial'

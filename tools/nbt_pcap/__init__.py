@@ -1,1 +1,1 @@
-"""What nbt-pcap2cap and nbt-cap2pcap are made of, and nbt-look-tshark reads with: packets of a pcap file or a network, and lines of captures."""
+"""What nbt-cap2pcap is made of, and nbt-look-tshark reads with: packets of a pcap file or a network, and lines of captures."""

@@ -1,10 +1,10 @@
-"""The command line of nbt-pcap2cap, and what can be said of its file before tshark reads it."""
+"""Words of a command line, and what can be said of a file before tshark reads it."""
 import argparse
 import os
 import stat
 
 from .header import SERVICES
-from .process import NAME, Stopped
+from .process import Stopped
 
 # How the text of a capture begins.
 CAPTURE_FRONTS = (b'# ', b'137 ', b'138 ', b'139 ', b'tick')
@@ -13,21 +13,6 @@ CAPTURE_FRONTS = (b'# ', b'137 ', b'138 ', b'139 ', b'tick')
 class Words(argparse.ArgumentParser):
     def error(self, message):
         raise Stopped(2, '%s; --help says more' % message)
-
-
-def options_of(arguments):
-    words = Words(prog=NAME, add_help=False, allow_abbrev=False)
-    for each in ('-h', '--help'), ('--bare',), ('--no-ticks',), ('--cut',), ('--quiet',), ('--live',):
-        words.add_argument(*each, action='store_true')
-    words.add_argument('-i', dest='interface')
-    words.add_argument('--port', dest='ports', action='append', type=mapped, default=[(port, port) for port in SERVICES])
-    words.add_argument('file', nargs='?')
-    options = words.parse_args(arguments)
-    options.live = options.live or options.interface is not None
-    if not options.help and options.live == (options.file is not None):
-        raise Stopped(2, 'usage: %s FILE >CAPTURE, or -, --live or -i INTERFACE in place of FILE; --help says more' % NAME)
-    judge_ports(options.ports)
-    return options
 
 
 def mapped(text):
@@ -44,12 +29,6 @@ def judge_ports(ports):
     for port, service in ports:
         if services.setdefault((service == 139, port), service) != service:
             raise Stopped(2, '--port: %d stands for %d and %d' % (port, services[False, port], service))
-
-
-def judge_file(path, closed):
-    """Refuses what holds no packets, and what can't be opened."""
-    if is_text(path, closed):
-        raise Stopped(2, '%s: the file holds no packets: it is the text of a capture' % title_of(path))
 
 
 def is_text(path, closed):

@@ -1,4 +1,4 @@
-"""Frames: the rows of tshark, and the lines that they give."""
+"""Frames: the rows of tshark, and the packets that they give."""
 from .clock import Clock, Fragments
 from .layers import TCP_HEADER, UDP_HEADER, Segment, Unpaired, packets_of, shape_of
 from .process import Stopped
@@ -14,14 +14,11 @@ NO_PACKETS = {'': 'a file of another kind', 'json': 'JSON', 'mime_dlt': 'a file 
 
 
 class Reader:
-    """Makes lines of the frames that tshark prints."""
+    """Makes packets of the frames that tshark prints; `payload` and `cut_payload` take them."""
 
-    passes_cut = False    # whether what the file has of a payload that the snap length cut is a line too
-
-    def __init__(self, options, capture, report):
+    def __init__(self, options, report):
         self.services = {str(port): service for port, service in options.ports if service != 139}
         self.session_ports = {str(port) for port, service in options.ports if service == 139}
-        self.capture = capture
         self.clock = Clock()
         self.fragments = Fragments()
         self.report = report
@@ -91,17 +88,11 @@ class Reader:
         is_cut = size > len(digits) and self.report.cut is CUT
         if 0 <= size <= len(digits):
             self.payload(row, service, digits[:size], packet)
-        elif is_cut and self.passes_cut and digits:
+        elif is_cut and digits:
             self.cut_payload(row, service, digits, packet, size // 2)
         else:
             self.report.leave_out(CUT if is_cut else BAD_LENGTH,
                                   'its UDP length is %s, and the file has %d bytes of its payload' % (length, len(digits) // 2))
-
-    def cut_payload(self, row, service, digits, packet, size):
-        """Takes what the file has of a payload of `size` bytes."""
-        self.report.note(CUT, 'frame %s is cut: the file has %d of the %d bytes of its payload'
-                         % (self.report.number, len(digits) // 2, size))
-        self.payload(row, service, digits, packet)
 
     def segment(self, row, packet):
         if packet.size and packet.flags:
@@ -111,11 +102,6 @@ class Reader:
                 self.payload(row, 139, whole.hex(), packet)
         elif packet.host.size is None or packet.host.size > TCP_HEADER:
             self.report.leave_out(self.report.cut, 'the file ends ' + ('inside its TCP header' if packet.target else 'before its ports'))
-
-    def payload(self, row, service, digits, packet):
-        comment = None if self.capture.bare else '# frame %s %s %s:%s > %s:%s' % (
-            row.number, self.clock.text, packet.host.source, packet.source, packet.host.target, packet.target)
-        self.capture.payload(service, self.clock.moment, digits, comment)
 
 
 def judge_kind(protocols):

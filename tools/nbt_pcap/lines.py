@@ -10,8 +10,8 @@ from .process import Stopped, faults_of
 
 LINE = re.compile(rb'(137|138|139) ([0-9]{1,20}) ((?:[0-9a-fA-F]{2})+|empty)|tick ([0-9]{1,20})|(#.*)?', re.DOTALL)
 COMMENT = re.compile(r'# frame ([0-9]{1,10}) (\S+) (\S+):([0-9]{1,5}) > (\S+):([0-9]{1,5})')
-# What nbt-pcap2cap says of the next payload, of which the snap length cut the end.
-CUT = re.compile(rb'# frame [0-9]{1,10} is cut: the file has [0-9]{1,5} of the ([0-9]{1,5}) bytes of its payload')
+# What nbt-look says of the next payload, of which the snap length cut the end.
+CUT = re.compile(rb'# frame [0-9]{1,10} cut: [0-9]{1,5} of ([0-9]{1,5}) bytes')
 TIME = re.compile(r'([0-9]{4})-([0-9]{2})-([0-9]{2})T([0-9]{2}):([0-9]{2}):([0-9]{2})\.([0-9]{6})Z')
 
 Ends = collections.namedtuple('Ends', 'source source_port target target_port')
@@ -29,7 +29,7 @@ class BadTime(Refused):
 
 
 class Frame:
-    """What a comment says of a frame, in the words of nbt-pcap2cap."""
+    """What a comment says of a frame, in the words of nbt-look."""
 
     def __init__(self, number, time, *ends):
         self.number = int(number)

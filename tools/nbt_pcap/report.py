@@ -47,9 +47,6 @@ class Report:
     def leave_out(self, reason, why):
         self.note(reason, 'frame %s is left out: %s' % (self.number, why))
 
-    def summary(self):
-        return '%d frames, %d of these ports, %s' % (self.frames, self.ours, left_out_text(self.left_out))
-
 
 def left_out_text(counts):
     """How many are left out, and of each reason how many, the most first."""

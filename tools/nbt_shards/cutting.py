@@ -132,7 +132,7 @@ def too_long(each, options):
         return Stopped(1, '%s: line %d has %d bytes, and `nbt merge` reads %d' % (each.capture, each.first, size, INPUT))
     return Stopped(1,
         '%s has %d bytes, of which `nbt save` reads %d, and can\'t be cut there: keys live across each of its ticks. Cut it '
-        'by source address (--by-source %d), or leave the ticks out (nbt-pcap2cap --no-ticks) where no key has to be dropped'
+        'by source address (--by-source %d), or leave the ticks out (nbt-look --lines --no-ticks) where no key has to be dropped'
         % (place_of(each), size, INPUT, 1 + size // (INPUT // 2)))
 
 

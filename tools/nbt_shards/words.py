@@ -65,7 +65,7 @@ def judge_kind(capture):
     with faults_of(capture), open(capture, 'rb') as file:
         front = file.read(4)
     if front in PCAPS:
-        raise Stopped(1, '%s is a pcap file, and a capture is wanted: nbt-pcap2cap --no-ticks makes one of it' % capture)
+        raise Stopped(1, '%s is a pcap file, and a capture is wanted: nbt-look --lines --no-ticks makes one of it' % capture)
 
 
 def judge_out(options):

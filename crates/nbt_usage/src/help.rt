@@ -3,7 +3,7 @@
 
 /// What else there is, and how the program ends.
 pub const STATUSES: &str =
-    "`nbt-look FILE` shows the packets of a pcap or pcapng file, `nbt-pcap2cap FILE` makes a \
+    "`nbt-look FILE` shows the packets of a pcap or pcapng file, `nbt-look --lines FILE` makes a \
      capture of it, which these{n}commands read on standard input, and `nbt-station` is a station \
      on the network.{n}{n}Exit status: 0 all was done, 1 the input was refused, 2 the command \
      line was bad, 3 a device failed or memory ran out.{n}With 1 and 3 one line, `nbt: ` and the \

@@ -22,7 +22,7 @@ use std::ops::Range;
 
 /// What is said of an input that is a pcap file.
 const LOOK: &str =
-    "a pcap or pcapng file: `nbt-look FILE` shows it, `nbt-pcap2cap FILE` makes a capture of it\n";
+    "a pcap or pcapng file: `nbt-look FILE` shows it, `nbt-look --lines FILE` makes a capture\n";
 
 /// What is said of words after `help` that are none of its.
 pub const UNHELPED: &str =

@@ -192,7 +192,7 @@ pub const REFUSALS: [Refusal; 29] = [
         number: " N",
         by: &["show", "replay", "save", "merge", "list", "agree"],
         advice: "no line of a capture, as `138 0 00ff` and `tick 1` are, or no table of `nbt \
-                 save`: leave out \\r; nbt-pcap2cap makes lines of a pcap",
+                 save`: leave out \\r; nbt-look --lines makes lines of a pcap",
     },
     Refusal {
         words: "bad magic",

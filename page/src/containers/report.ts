@@ -1,4 +1,4 @@
-/** What is left out of a file: its frames, each once and for the first reason, and comments on them, in the words of nbt-pcap2cap. */
+/** What is left out of a file: its frames, each once and for the first reason, and comments on them, in words. */
 
 import { CUT, SHORT } from '../made/reasons.js';
 

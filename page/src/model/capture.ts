@@ -1,4 +1,4 @@
-/** The lines of the capture that a file gives, as nbt-pcap2cap prints them, or as they stand in it. */
+/** The lines of the capture that a file gives, as nbt-look --lines prints them, or as they stand in it. */
 import { bytesOf, digitsOf } from '../containers/digits.js';
 import { LineFault, linesOf } from '../containers/lines.js';
 import type { Slices } from '../containers/slices.js';

@@ -1,4 +1,4 @@
-/** The times of frames as nbt-pcap2cap writes them. */
+/** The times of frames as nbt-look writes them. */
 
 const SECOND = 1_000_000_000n;
 const MILLISECOND = 1_000_000n;

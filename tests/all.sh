@@ -92,7 +92,7 @@ stated=$(least rt all)
 
 step rt 170 $((proofs > stated && stated > 0 ? proofs : stated)) env RT_JOBS="$checks" tests/lib/costs.py rt ci
 step wrong_bodies.py 120 "$(least wrong_bodies.py all)" env RT_JOBS="$checks" tests/wrong_bodies.py
-for each in program.sh process.py examples.sh wireshark.sh look.sh look_program.py look_files.py manual.sh; do
+for each in program.sh process.py examples.sh wireshark.sh look.sh look_program.py look_lines.py look_files.py look_traffic.py manual.sh; do
     step $each 20 "$(least $each all)" "tests/$each"
 done
 step library.sh 40 "$(least library.sh all)" env AFTER_RT_CI=1 MODULE="$room/nbt.bc" tests/library.sh

@@ -3,7 +3,7 @@
 
 Of 724,638 packets of tests/captures/big_pcap.py what the list of crates/nbt_look's program costs, where that is built: processor seconds beside
 those of tshark, which prints the same fields; instructions beside those of the plain program of tests/plain/, which prints the same lines; and how
-much memory it takes, of a file ten times as long too.
+much memory it takes, of a file ten times as long too. Of 10^6 segments of one stream what each costs beside one of 10^4, in order and shuffled.
 
 Then, of so many packets (100,000), the processor seconds of nbt-look-tshark, with those of tshark and nbt, beside those of tshark alone with the
 fields that it asks for.
@@ -25,7 +25,8 @@ import types
 sys.dont_write_bytecode = True
 HERE = os.path.dirname(os.path.abspath(__file__))
 TOOLS = os.path.join(HERE, '..', 'tools')
-sys.path[1:1] = [f'{HERE}/bench', f'{HERE}/lib', TOOLS]
+sys.path[1:1] = [*(f'{HERE}/{each}' for each in ('bench', 'captures', 'lib')), TOOLS]
+import endless
 import plain_program
 from bench_rows import HEADING, Row, heading, instructions, least, peak, printed, processor_seconds, show
 from nbt_look.frames import FIELDS, STATISTICS
@@ -40,7 +41,10 @@ NOBODY = 65_534
 # Of the program of crates/nbt_look: how many packets, how many times tshark's seconds and the plain program's instructions, and how much memory.
 PROGRAM, LONG = f'{HERE}/../crates/nbt_look/out/nbt_look', 724_638
 PROVED, PLAIN, MEGABYTES, TIMES = 1 / 40, 2, 8, 10
-SHOWN = 'frame.number', 'frame.time_relative', 'ip.src', 'udp.srcport', 'ip.dst', 'udp.dstport', 'udp.payload'
+SHOWN = ('frame.number', 'frame.time_relative', 'ip.src', 'udp.srcport', 'tcp.srcport', 'ip.dst', 'udp.dstport', 'tcp.dstport', 'udp.payload', 'nbss.type',
+         'nbss.length')
+# How many segments streams have, within how many they are shuffled, and how many times as much one may cost of the longer streams.
+FEW, MANY, WIDTHS, SEGMENT = 10_000, 1_000_000, (1, 1_000), 1.4
 
 
 def of_program(folder):
@@ -48,7 +52,7 @@ def of_program(folder):
     path, plain = f'{folder}/long.pcap', plain_program.compiled(folder)
     subprocess.run([f'{HERE}/captures/big_pcap.py', str(LONG), path], check=True)
     fields = [word for each in SHOWN for word in ('-e', each)]
-    alone = processor_seconds(['tshark', '-n', '-r', path, '-Y', 'udp.port in {137, 138}', '-T', 'fields', *fields], path)
+    alone = processor_seconds(['tshark', '-n', '-r', path, '-Y', 'udp.port in {137, 138} || nbss', '-T', 'fields', *fields], path)
     yield Row("tshark, the list's fields", seconds=alone)
     taken = least(processor_seconds, [PROGRAM, path], path)
     yield Row('nbt-look', seconds=taken, of=taken / alone, most=PROVED, said=f'1 of {alone / taken:.0f}')
@@ -61,6 +65,20 @@ def of_program(folder):
     more = peak_of_several(path)
     yield Row(f'nbt-look: MB of memory, of {TIMES} times the file', of=more and more / 1_000, most=MEGABYTES)
     check(not most or abs(more - most) < 200, f'nbt-look: {most} kB, and {more} of {TIMES} times the file')
+    os.remove(path)
+
+
+def of_streams(folder):
+    """The rows of streams: as many segments of a hundred streams, and of one."""
+    path = f'{folder}/streams.pcap'
+    for width in WIDTHS:
+        costs = []
+        for count in (FEW, MANY):
+            with open(path, 'wb') as file:
+                endless.streams(file, MANY // count, count, width)
+            costs.append(least(processor_seconds, [PROGRAM, '-'], path))
+            title = f'nbt-look: segments of a stream of {count:,}' + (f', shuffled within {width:,}' if width > 1 else '')
+            yield Row(title, seconds=costs[-1], of=costs[-1] / costs[0], most=SEGMENT)
     os.remove(path)
 
 
@@ -133,6 +151,7 @@ def main():
             print(f'{LONG:,} packets')
             heading(*HEADING)
             show(of_program(folder))
+            show(of_streams(folder))
             print()
         path, other = f'{folder}/big.pcap', f'{folder}/other.pcap'
         subprocess.run([f'{HERE}/captures/big_pcap.py', str(packets), path], check=True)

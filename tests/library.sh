@@ -175,7 +175,7 @@ values() {
 programs() {
     local each
     for each in office samba; do
-        "$top/tools/nbt-pcap2cap" --quiet --bare "$top/examples/$each.pcap" >"$room/$each.txt" 2>"$room/errors"
+        "$look" --lines --quiet --bare "$top/examples/$each.pcap" >"$room/$each.txt" 2>"$room/errors"
         count $? "examples/$each.pcap: $(tail -n 1 "$room/errors")"
     done
     $CC "${strict[@]}" -o "$room/claims" "$top/examples/claims.c" "$built/libnbt.a" >"$room/log" 2>&1

@@ -18,7 +18,7 @@ prepared() {
     echo '<p><script type="application/octet-stream" id="given" data-name=""></script>' >"$files/elsewhere/nbt.html"
     printf 'no\tcapture\n' >"$files/other"
     nbt-look-tshark "$here/../examples/office.pcap" >"$files/list"
-    nbt-pcap2cap --quiet "$here/../examples/office.pcap" >"$files/capture"
+    nbt-look --lines --quiet "$here/../examples/office.pcap" >"$files/capture"
     # numbers: those of the frames of a list. terminal COLUMNS COMMAND..: what a command shows on a terminal of so many columns.
     printf '#!/bin/sh\nawk '\''/^ *[0-9]+ +[-0-9.]+ / { printf "%%s%%s", between, $1; between = " " } END { if (between) print "" }'\''\n' >"$room/bin/numbers"
     printf '#!/bin/sh\nexec "%s/lib/terminal.py" --columns="$@" | tr -d "\\r"\n' "$here" >"$room/bin/terminal"

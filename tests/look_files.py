@@ -25,15 +25,13 @@ sys.path[1:1] = [f'{HERE}/{it}' for it in ('lib', 'captures', '.')]
 import random_files
 from bundled import bundled
 from every_request import tried
-from look_program import BILLION, COUNTS, FRAMES, LINE, is_plain, line_of, run, tshark_rows
+from look_program import BILLION, COUNTS, FRAMES, LABEL, LINE, is_plain, line_of, run, tshark_rows
 from parts import check, equal, finish, part, skip
 from random_files import PACKET, SIMPLE_PACKET, block, changed, file_of, option, parts_of
 from served import Program, Run, Served, compiled
 from wire import QUERY, ethernet, interface, pcap_header, section, sent, written
 
 SECTION_TYPE = section()[:4]
-# An interface in a cell; the page knows none.
-LABEL = re.compile(r'%\S+')
 SIZES = 1, 7, 4_095, 4_096
 # The most memory of a run, in kB, with the two MB of GNU time; and where a file describes as many interfaces as it may, with names.
 ROOM, DESCRIBED = 8_000, 32_000
@@ -103,7 +101,7 @@ def beside_tshark(program, paths):
         others = {int(each['frame.number']) for each in rows} - {int(each['frame.number']) for each in plain}
         listed.lines = {number: line for number, line in listed.lines.items() if number not in others}
         # tshark numbers the interfaces of each section anew.
-        compared(listed, wanted, min(listed.frames, len(rows)), f'{os.path.basename(path)} by tshark', labels=has_one_section(path))
+        compared(listed, wanted, min(listed.frames, len(rows)), f'{os.path.basename(path)} by tshark', labels=has_one_section(path) and not others)
         if listed.frames != len(rows):
             apart[('nbt-look: ' + re.sub('[0-9]+', 'N', listed.why)) if listed.frames < len(rows) else 'tshark'] += 1
     told(apart)
@@ -115,7 +113,7 @@ def has_one_section(path):
 
 
 def beside_page(program, room, paths):
-    """The same by the reader of the page."""
+    """The same by the reader of the page, of which this takes datagrams alone."""
     subprocess.run([f'{HERE}/../tools/lists.py', '--made'], check=True)
     script, = bundled(room, 'datagrams.mjs')
     names = written(f'{room}/names', '\n'.join(paths).encode())
@@ -123,6 +121,9 @@ def beside_page(program, room, paths):
     apart = collections.Counter()
     for path, said in zip(paths, map(json.loads, done.stdout.splitlines())):
         listed = Listed(program, path)
+        objects = map(json.loads, run(program, path, words=('--json', '--quiet')).stdout.splitlines())
+        ours = {each['frame'] for each in objects if each['port'] in (137, 138)}
+        listed.lines = {number: line for number, line in listed.lines.items() if number in ours}
         state = {'first': int(said['first']) if said['first'] else None, 'label': None, 'widths': [5, 9, 15, 15]}
         wanted = {each['frame']: line for each in said['datagrams'] for line in line_of(row_of(each), state)}
         compared(listed, wanted, min(listed.frames, said['frames']), f'{os.path.basename(path)} by the page')

@@ -6,7 +6,8 @@ Usage: tests/look_program.py [PROGRAM [CAPTURE..]]; without captures those of te
 what is said of other files is tried too. The last line is 'N passed, M failed, K skipped'. Where tshark isn't installed what it reads is left out.
 
 tshark gives number, time, ends, ports and payload of each datagram of UDP (RFC 768) from or to port 137 or 138 that is neither in a
-tunnel, nor a fragment of IP, nor quoted; tests/model says the phrase, and this script lays the line out. Whether a frame ends early is
+tunnel, nor a fragment of IP, nor quoted; tests/model says the phrase, and this script lays the line out. What is listed of fragments and
+of port 139 of TCP other scripts hold. Whether a frame ends early is
 known by its place in the file alone. A header of which the snap length left a part is left out by the program, whatever tshark reads of it.
 """
 import datetime
@@ -35,13 +36,15 @@ from wire import QUERY, RESPONSE, ethernet, pcap, sent, spaced, written
 
 FIELDS = ('frame.number', 'frame.time_epoch', 'frame.interface_name', 'frame.interface_id', 'frame.len', 'frame.cap_len', 'frame.protocols',
           'ip.src', 'ip.dst', 'ipv6.src', 'ipv6.dst', 'ip.flags.mf', 'ip.frag_offset', 'ipv6.fraghdr.offset', 'ipv6.fraghdr.more', 'udp.srcport', 'udp.dstport',
-          'udp.length', 'udp.checksum', 'udp.payload')
+          'udp.length', 'udp.checksum', 'udp.payload', 'tcp.srcport', 'tcp.dstport')
 SERVICES = 137, 138
 BILLION = 10**9
 # A line of a packet; an address of the form that RFC 4291 section 2.5.5.1 gives up, which tshark writes with dots.
 UTC_LINE = re.compile(rb' *[0-9]+ +([0-9]{4}-|-)')
 COUNTS = re.compile(rb'[0-9]+ frames?, [0-9]+ packets?, ')
 LINE, DOTTED = re.compile(r' *[0-9]+ +[-0-9]'), re.compile(r'::[0-9]+(\.[0-9]+){3}')
+# An interface in a cell.
+LABEL = re.compile(r'%\S+')
 
 
 def main():
@@ -97,7 +100,7 @@ def one_beside_tshark(program, path):
     lines, state = [], {'first': None, 'label': None, 'widths': [5, 9, 15, 15]}
     for row in rows:
         lines += line_of(row, state)
-    squeezed = lambda texts: [' '.join(each.split()) for each in texts]
+    squeezed = lambda texts: [' '.join(LABEL.sub('', each).split()) for each in texts]
     name = os.path.basename(path)
     given, lines = (given, lines) if not left else (squeezed(given), squeezed(lines))
     differing = [pair for pair in itertools.zip_longest(given, lines) if pair[0] != pair[1]]
@@ -113,7 +116,9 @@ def tshark_rows(path):
 
 
 def is_plain(row):
-    """Whether a frame has a packet of IP in no tunnel, or none."""
+    """Whether a frame has a packet of IP in no tunnel, or none, which is neither a fragment nor of port 139 of TCP."""
+    if is_fragment(row) or '139' in (row['tcp.srcport'], row['tcp.dstport']):
+        return False
     layers = row['frame.protocols'].split(':')
     return sum(each in ('ip', 'ipv6') for each in layers) <= 1 and not any(each.startswith('icmp') for each in layers) and ',' not in row['udp.srcport']
 
@@ -128,7 +133,7 @@ def line_of(row, state):
         return []
     ports = [int(row[each] or 0) for each in ('udp.dstport', 'udp.srcport')]
     service = service_of(row)
-    if service is None or is_fragment(row) or not row['udp.checksum'] or int(row['udp.length']) < 8:
+    if service is None or not row['udp.checksum'] or int(row['udp.length']) < 8:
         return []
     phrase = phrase_of(row, service)
     name = row['frame.interface_name']
@@ -193,9 +198,9 @@ def filters(program, paths):
         lines = [each for each in run(program, path).stdout.splitlines() if LINE.match(each.decode(errors='surrogateescape'))]
         first = run(program, path, words=['-c', str(most)]).stdout.splitlines()[:most]
         equal(first, lines[:most], f'-c {most} of {os.path.basename(path)}')
-        given = [each.split()[1].decode() for each in run(program, path, words=['--time', 'utc']).stdout.splitlines() if UTC_LINE.match(each)]
-        rows = shown_rows(program, path, [], tshark_rows(path))
-        equal(given, [utc(each['frame.time_epoch']) for each in rows], f'--time utc of {os.path.basename(path)}')
+        given = [each.decode(errors='surrogateescape').split()[:2] for each in run(program, path, words=['--time', 'utc']).stdout.splitlines() if UTC_LINE.match(each)]
+        times = {each['frame.number']: each['frame.time_epoch'] for each in tshark_rows(path)}
+        equal([at for _, at in given], [utc(times[number]) for number, _ in given], f'--time utc of {os.path.basename(path)}')
 
 
 def named(program, path, rows, shown_whole, random_of):
@@ -236,8 +241,8 @@ def names_in(told):
 
 # The kinds of packets that are listed.
 KIND_WORDS = ('query, status, registration, refresh, release, wack, response, conflict, datagram, unique, group, broadcast, fragment, error, find, found, '
-              'missing, positive, negative, malformed or left-out')
-OUR_KINDS = [kind for title, kinds_there in KINDS_OF.items() if title != 'port 139' for kind in kinds_there]
+              'missing, session, request, retarget, message, keepalive, positive, negative, malformed or left-out')
+OUR_KINDS = [kind for kinds_there in KINDS_OF.values() for kind in kinds_there]
 
 
 def kinds(program, paths):
@@ -308,7 +313,7 @@ def object_of(row, first):
             told = {'cut': size} | packet_shown(service, payload) | front_of(service, payload)
     return {
         'frame': int(row['frame.number']), 'time': utc(row['frame.time_epoch']), 'from': ends[0], 'to': ends[1],
-        'from_port': int(row['udp.srcport']), 'to_port': int(row['udp.dstport']),
+        'source_port': int(row['udp.srcport']) or None, 'target_port': int(row['udp.dstport']) or None,
         'interface': ''.join(map(shown, name.encode(errors='surrogateescape'))) if name not in ('', 'unknown') else None,
         'size': int(row['frame.len']), 'captured': int(row['frame.cap_len']), 'port': service,
         'moment': max(nanoseconds(row) - first, 0) // 10**6, 'brief': phrase} | told
@@ -344,8 +349,10 @@ def filtered(program, path, rows, shown_whole, random_of):
     wanted = [each['frame.number'] for each in shown_whole if is_wanted(each, hosts, ports)]
     given = [each['frame.number'] for each in shown_rows(program, path, words, rows)]
     equal(given, wanted, f"{' '.join(words)} of {os.path.basename(path)}")
-    counts = [each for each in run(program, path, words=words).stdout.splitlines() if COUNTS.match(each)]
-    equal([each.partition(b'; ')[2] for each in counts], [b'%d shown' % len(wanted) if words else b''], f"the counts of {' '.join(words)}")
+    lines = run(program, path, words=words).stdout.splitlines()
+    counts = [each for each in lines if COUNTS.match(each)]
+    shown = sum(bool(LINE.match(each.decode(errors='surrogateescape'))) for each in lines)
+    equal([each.partition(b'; ')[2] for each in counts], [b'%d shown' % shown if words else b''], f"the counts of {' '.join(words)}")
 
 
 def network_of(address, random_of):
@@ -392,7 +399,7 @@ def merged_beside_mergecap(program, room, paths):
 def unmarked(done):
     """The words of each line but the last ones, without what interfaces are called."""
     lines = done.stdout.decode(errors='surrogateescape').splitlines()
-    return [' '.join(re.sub(r'%\S+', '', each).split()) for each in lines if LINE.match(each)], [each for each in lines if COUNTS.match(each.encode(errors='replace'))]
+    return [' '.join(LABEL.sub('', each).split()) for each in lines if LINE.match(each)], [each for each in lines if COUNTS.match(each.encode(errors='replace'))]
 
 
 def several(program, room):
@@ -472,10 +479,9 @@ def others(program, room):
     done = run(program, '-', FRAMES, ['--time', 'local'])
     said_so = b'nbt-look: local: no way to show times: give start, or utc\n'
     equal((done.stdout, done.stderr, done.returncode), (b'', said_so, 2), '--time local')
-    for given, why in (('queries', f'no kind: give {KIND_WORDS}'), ('query,', f'no kind: give {KIND_WORDS}'),
-                       ('query,message', "a kind of packets of port 139, which aren't read yet")):
+    for given in ('queries', 'query,'):
         done = run(program, '-', FRAMES, ['--kind', given])
-        said_so = f"nbt-look: {given.split(',')[-1]}: {why}\n".encode()
+        said_so = f"nbt-look: {given.split(',')[-1]}: no kind: give {KIND_WORDS}\n".encode()
         equal((done.stdout, done.stderr, done.returncode), (b'', said_so, 2), f'--kind {given}')
     done = run(program, '-', FRAMES, ['--color', 'red'])
     said_so = b'nbt-look: red: no way to choose colours: give auto, always, or never\n'

@@ -6,7 +6,7 @@
 set -uo pipefail
 . "$(dirname "$0")/lib/counting.sh"
 program=$(realpath "${1:-$here/../crates/nbt/out/nbt}")
-tools=(nbt-look nbt-look-tshark nbt-pcap2cap nbt-cap2pcap nbt-dask nbt-station)
+tools=(nbt-look nbt-look-tshark nbt-cap2pcap nbt-dask nbt-station)
 
 # Pages of other programs needn't be installed.
 lint() {
@@ -49,7 +49,7 @@ usable() {
     local at=$room/root$1 tool option
     for tool in nbt "${tools[@]}"; do
         (cd "$room" && ended "$at/bin/$tool" --help) >"$room/help" 2>"$room/errors" && grep -q "$tool" "$room/help" &&
-            ! grep -qE "(^|[^-a-z_/])(pcap2cap|cap2pcap)" "$room/help" && [ ! -s "$room/errors" ]
+            ! grep -qE "(^|[^-a-z_/])cap2pcap" "$room/help" && [ ! -s "$room/errors" ]
         count $? "$tool, installed below $1, prints its help: $(cat "$room/errors")"
         [ -f "$at/share/man/man1/$tool.1" ]
         count $? "$tool, installed below $1: its manual page"
@@ -133,12 +133,11 @@ nbt build r|registration refresh release response request retarget
 nbt build --broadcast que|query
 nbt build --b|--broadcast
 nbt help m|merge
-nbt-look --n|--name
+nbt-look --n|--name --no-ticks
+nbt-look --l|--lines
 nbt-look --p|--port
 nbt-look-tshark --k|--kind
 nbt-look-tshark --fr|--frame
-nbt-pcap2cap --b|--bare
-nbt-pcap2cap -|--bare --no-ticks --cut --quiet --port --live -i --help
 nbt-cap2pcap --|--help
 nbt-dask --s|--shard-bytes --scheduler --send
 nbt-dask --w|--workers --wait

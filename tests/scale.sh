@@ -140,8 +140,8 @@ refusals() {
 
 # captures ENGINE: captures that can't be cut, or aren't any, and tables that are too large for one.
 captures() {
-    refuses 1 "nbt-dask: ever: lines 1 to * has * bytes, *: keys live across *\(--by-source 3\)*\(nbt-pcap2cap --no-ticks\)*" "$1" "$program" ever
-    refuses 1 'nbt-dask: * is a pcap file, and a capture is wanted: nbt-pcap2cap --no-ticks makes one of it' \
+    refuses 1 "nbt-dask: ever: lines 1 to * has * bytes, *: keys live across *\(--by-source 3\)*\(nbt-look --lines --no-ticks\)*" "$1" "$program" ever
+    refuses 1 'nbt-dask: * is a pcap file, and a capture is wanted: nbt-look --lines --no-ticks makes one of it' \
         "$1" "$program" "$here/../examples/office.pcap"
     refuses 3 'nbt-dask: nowhere: no such file' "$1" "$program" many nowhere
     refuses 1 'nbt-dask: 2 tables are left, of which no two can be merged:*' "$1" "$program" --tables small large small

@@ -1,5 +1,5 @@
 #!/usr/bin/env python3
-"""A pcap file of as many packets as are wanted, for the cost of tools/nbt-pcap2cap; always the same for a number.
+"""A pcap file of as many packets as are wanted, for the cost of nbt-look; always the same for a number.
 
 Usage: tests/captures/big_pcap.py PACKETS PCAP
 

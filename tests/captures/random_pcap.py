@@ -178,12 +178,12 @@ class Side:
         return self.ends.packet(TCP, tcp(source, target, self.first + place, data, flags, 0, options), self.back)
 
 
-def stream(rng, ends, data_of=session_bytes):
+def stream(rng, ends, data_of=session_bytes, side_of=Side):
     """A TCP stream of both ends, or one that has the ports of one that ended, and no SYN."""
     ports = rng.randrange(1_024, 30_000), 139
     for life in range(rng.choice((1, 1, 1, 2))):
         ending = rng.choice((0, FIN, FIN, RST)) if life == 0 else FIN
-        sides = [Side(rng, ends, ports, back) for back in (False, True)[:rng.randrange(1, 3)]]
+        sides = [side_of(rng, ends, ports, back) for back in (False, True)[:rng.randrange(1, 3)]]
         sent = []
         for side in sides:
             options = rng.choice((b'', bytes([2, 4, 5, 180]), bytes([1]) * 20))

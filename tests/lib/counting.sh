@@ -106,7 +106,7 @@ counted_by() { counted "$here/$1" "${@:2}"; }
 # with_tools PROGRAM: $room/bin has the programs and the tools that read a pcap, and the one that leads back. tshark has no user's settings.
 with_tools() {
     mkdir "$room/bin" && ln -s "$(realpath "$1")" "$room/bin/nbt" && ln -s "$look" "$room/bin/nbt-look"
-    ln -s "$(realpath "$here/../tools")"/nbt-{look-tshark,pcap2cap,cap2pcap} "$room/bin"
+    ln -s "$(realpath "$here/../tools")"/nbt-{look-tshark,cap2pcap} "$room/bin"
     export WIRESHARK_CONFIG_DIR=$room/settings
 }
 

@@ -27,7 +27,7 @@ PATIENCE = 600
 CONSOLE = re.compile(r'^```console\n(.*?)^```$', re.MULTILINE | re.DOTALL)
 # A sample of a page: its first line, the command, and what a terminal shows.
 SAMPLE = re.compile(r'^([$] (.*)\n)((?:(?![$] ).*\n)*)', re.MULTILINE)
-OF_PCAPS = re.compile('nbt-pcap2cap|nbt-look-tshark')
+OF_PCAPS = re.compile('nbt-cap2pcap|nbt-look-tshark')
 
 
 def parts_of(lines):

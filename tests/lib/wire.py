@@ -44,8 +44,8 @@ def sent(port, payload, *ends):
     return ip(UDP, udp(port, port, payload), *ends)
 
 
-def tcp(source, target, sequence, payload=b'', flags=ACK, acknowledged=1, options=b''):
-    header = struct.pack('>HHLLBBHHH', source, target, sequence % 2**32, acknowledged, (20 + len(options)) * 4, flags, 65_535, 0, 0)
+def tcp(source, target, sequence, payload=b'', flags=ACK, acknowledged=1, options=b'', window=65_535):
+    header = struct.pack('>HHLLBBHHH', source, target, sequence % 2**32, acknowledged, (20 + len(options)) * 4, flags, window, 0, 0)
     return header + options + payload
 
 

@@ -93,7 +93,7 @@ debian() {
     installed
     mkdir "$room/bin"
     printf '#!/bin/sh\nexec chroot "%s" nbt "$@"\n' "$fresh" >"$room/bin/nbt" && chmod +x "$room/bin/nbt"
-    ln -s "$fresh"/usr/bin/nbt-{look,look-tshark,pcap2cap,cap2pcap} "$room/bin"
+    ln -s "$fresh"/usr/bin/nbt-{look,look-tshark,cap2pcap} "$room/bin"
     page README.md
     page docs/CAPTURES.md
     in_c "${CC:-cc}" "$fresh/packages/first" -I"$fresh/usr/include" -L"$fresh/usr/lib/x86_64-linux-gnu" -lnbt

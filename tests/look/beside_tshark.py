@@ -1,11 +1,10 @@
 #!/usr/bin/env python3
-"""Captures through tools/nbt-look-tshark, beside tools/nbt-pcap2cap, and files beside the fields of tshark too.
+"""Captures through tools/nbt-look-tshark, whose last lines count what it prints, and files beside the fields of tshark too.
 
 Usage: tests/look/beside_tshark.py COUNT [SEED], or .. FILE..
 
-Random captures are those of tests/captures/random_pcap.py, ten in a file; tests/wireshark/random_captures.py says which packets they
-have. The packets are those that nbt-pcap2cap has, each with its frame, time, addresses, ports and service; as much is left out for each
-reason, but for fragments of IP; and what the last lines count adds up.
+Random captures are those of tests/captures/random_pcap.py, ten in a file: datagrams, fragments of IP and TCP streams as networks deliver
+them, below VLAN tags, with snap lengths. What the last lines count adds up.
 
 Of each frame of a file the packets are those that tshark dissects: nbns by the number and the word of its header, nbdgm by its kind and
 number, nbss by its type and length. Of a packet that is refused their count alone is compared; a frame of which something is left out,
@@ -28,7 +27,6 @@ from seeds import compared
 from wire import written
 
 TOOLS = f'{sys.path[0]}/../../tools'
-PAYLOAD = re.compile(r'^(# frame .* > .*)\n(13[789]) ', re.MULTILINE)
 FIELDS = ('frame.number', 'frame.protocols', 'nbns.id', 'nbns.flags', 'nbdgm.type', 'nbdgm.dgram_id', 'nbss.type', 'nbss.length')
 WANTED = '(nbss.type || frame.protocols matches ":(nbns|nbdgm)(:|$)") && !icmp && !icmpv6'
 SESSION_TYPES = {'message': 0x00, 'request': 0x81, 'positive': 0x82, 'negative': 0x83, 'retarget': 0x84, 'keepalive': 0x85}
@@ -51,13 +49,10 @@ def ten(rng):
 
 def first_difference(path, beside=lambda path, objects: ''):
     """What the tool shows of a capture that the others don't find, or the other way round."""
-    done, other = (run(f'{TOOLS}/{tool}', *words, path) for tool, words in (('nbt-look-tshark', ['--json']), ('nbt-pcap2cap', [])))
+    done = run(f'{TOOLS}/nbt-look-tshark', '--json', path)
     objects = [json.loads(line, object_pairs_hook=members) for line in done.stdout.splitlines()]
     packets = [each for each in objects if 'left_out' not in each and 'cut' not in each]
-    given, wanted = collections.Counter(map(head_of, packets)), collections.Counter(PAYLOAD.findall(other.stdout))
-    if given != wanted:
-        return f'{list((given - wanted).items())[:3]} in place of {list((wanted - given).items())[:3]}'
-    return beside(path, objects) or miscounted(done.stderr, objects, packets, other.stderr)
+    return beside(path, objects) or miscounted(done.stderr, objects, packets)
 
 
 def members(pairs):
@@ -110,13 +105,13 @@ def found_by_tshark(path):
     return found
 
 
-def miscounted(summary, objects, packets, other):
-    """What the last lines of the tool count otherwise than its objects do, or nbt-pcap2cap does."""
+def miscounted(summary, objects, packets):
+    """What the last lines of the tool count otherwise than its objects do."""
     found = re.fullmatch(r'(\d+) frames?, (\d+) packets?, (\d+) malformed, (\d+) left out(?:: (.*))?', summary.splitlines()[0])
     frames, *counts = map(int, found.groups()[:4])
     wanted = [len(packets), sum('refused' in each for each in packets), len(objects) - len(packets)]
-    if counts != wanted or counted(found[5]) != counted(other.strip().partition(': ')[2]):
-        return f'{summary.strip()}, not {wanted}, {other.strip()}'
+    if counts != wanted:
+        return f'{summary.strip()}, not {wanted}'
     without = re.search(r'^(\d+) frames? without a packet: (.*)$', summary, re.MULTILINE)
     missing = [frames - len({each['frame'] for each in objects})] * 2 if packets else []
     sums = [int(without[1]), sum(int(each.split()[0]) for each in without[2].split(', '))] if without else missing and [0, 0]
@@ -125,18 +120,6 @@ def miscounted(summary, objects, packets, other):
 
 def run(*words):
     return subprocess.run(words, capture_output=True, text=True, timeout=120, check=False)
-
-
-def counted(reasons):
-    """What is left out for each reason, but for fragments of IP."""
-    return sorted(each for each in (reasons or '').split(', ') if each and 'fragments of IP' not in each)
-
-
-def head_of(packet):
-    """The comment that nbt-pcap2cap writes of a packet, and its service."""
-    source, target = ('[%s]' % each if ':' in each else each for each in (packet['from'], packet['to']))
-    ends = '%s:%d > %s:%d' % (source, packet['ports'][0], target, packet['ports'][1])
-    return f'# frame {packet["frame"]} {packet["time"] or "-"} {ends}', str(packet['port'])
 
 
 if __name__ == '__main__':

@@ -1,7 +1,8 @@
 """What fragments of IP make of their packets, over the list of all that came, the latest last (docs/DECISIONS.md has the choices).
 
-A fragment is (key, offset, more, data), and comes at what the clock shows: the greatest time of a frame so far. Those of a key whose first
-came 60 seconds ago are dropped. A key has all that its fragments say, and is spoilt for good where two contradict each other."""
+A fragment is (key, offset, more, data), where data is None of one that the snap length cut, and comes at what the clock shows: the greatest time
+of a frame so far. Those of a key whose first came 60 seconds ago are dropped. A key has all that its fragments say, and is spoilt for good
+where two contradict each other."""
 KEYS, ROOM, LIFETIME, LONGEST = 4_096, 1 << 26, 60_000_000_000, 65_535
 
 
@@ -30,31 +31,28 @@ def whole(fragments):
 
 
 class Fragments:
-    """The fragments that are live: when each came, and what it says."""
+    """The fragments that are live, by their keys, with when the first of each key came."""
 
     def __init__(self):
-        self.clock, self.live = 0, []
-
-    def of(self, key):
-        """The live fragments of a key."""
-        return [it for _, it in self.live if it[0] == key]
-
-    def start(self, key):
-        """When the first live fragment of a key came."""
-        return next((time for time, it in self.live if it[0] == key), None)
+        self.clock, self.live, self.starts, self.dropped = 0, {}, {}, 0
 
     def take(self, fragment, time=None):
-        """What a fragment of a frame of this time makes: whole with its bytes, kept, again, disagrees, or too long, or too many."""
+        """What a fragment of a frame of this time makes: whole with its bytes, kept, again, disagrees, cut, too long, or too many."""
         self.clock = max(self.clock, self.clock if time is None else time)
-        self.live = [(came, it) for came, it in self.live if self.clock < self.start(it[0]) + LIFETIME]
+        for key in [key for key, start in self.starts.items() if self.clock >= start + LIFETIME]:
+            self.dropped += is_unfinished(self.live.pop(key))
+            del self.starts[key]
         key, offset, _, data = fragment
+        if data is None:
+            return 'cut', None
         if offset + len(data) > LONGEST:
             return 'too long', None
-        before = self.of(key)
+        before = self.live.get(key, [])
         after = [*before, fragment]
-        if self.used() + len(data) > ROOM or not before and len({it[0] for _, it in self.live}) >= KEYS:
+        if self.used() + len(data) > ROOM or not before and len(self.live) >= KEYS:
             return 'too many', None
-        self.live.append((self.clock, fragment))
+        self.live[key] = after
+        self.starts.setdefault(key, self.clock)
         if said(after) is None:
             return 'disagrees', None
         if whole(before) is not None:
@@ -63,18 +61,14 @@ class Fragments:
         return ('kept' if made is None else 'whole'), made
 
     def used(self):
-        """The bytes of the live fragments that said more than those of their key before them."""
-        count, keys = 0, {}
-        for _, fragment in self.live:
-            before = keys.setdefault(fragment[0], [])
-            told = said(before)
-            before.append(fragment)
-            now = said(before)
-            more = now is not None and (told is None or now != told or promise(before) != promise(before[:-1]))
-            count += len(fragment[3]) if more else 0
-        return count
+        """The bytes of the live fragments, at most: nothing is counted twice that says nothing new."""
+        return sum(len(data) for fragments in self.live.values() for _, _, _, data in set(fragments))
+
+    def unfinished(self):
+        """How many packets have some fragments and lack others, of those that are live and those that were dropped."""
+        return self.dropped + sum(map(is_unfinished, self.live.values()))
 
 
-def promise(fragments):
-    """The greatest place at or after which one of these fragments promises a byte."""
-    return max((offset + len(data) for _, offset, more, data in fragments if more), default=-1)
+def is_unfinished(fragments):
+    """Whether some fragments of a packet are missing, and those that came contradict nothing."""
+    return said(fragments) is not None and whole(fragments) is None

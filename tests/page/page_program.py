@@ -31,7 +31,7 @@ class Program:
     def __init__(self, program, top, folder):
         self.top, self.folder = top, folder
         os.mkdir(f'{folder}/bin')
-        for name, path in (('nbt', program), ('nbt-look-tshark', f'{top}/tools/nbt-look-tshark'), ('nbt-pcap2cap', f'{top}/tools/nbt-pcap2cap')):
+        for name, path in (('nbt', program), ('nbt-look-tshark', f'{top}/tools/nbt-look-tshark'), ('nbt-look', f'{top}/crates/nbt_look/out/nbt_look')):
             os.symlink(path, f'{folder}/bin/{name}')
         os.chmod(written(f'{folder}/bin/tshark', TSHARK.replace('REAL', shutil.which('tshark')).encode()), 0o755)
         self.env = {**os.environ, 'PATH': f"{folder}/bin:{os.environ['PATH']}", 'WIRESHARK_CONFIG_DIR': f'{folder}/settings'}
@@ -71,13 +71,13 @@ class Program:
 
     def delivered(self, name, station):
         """Key, source and destination of each datagram that is delivered."""
-        capture = f'nbt-pcap2cap {name}' if name.endswith('.pcap') else f'cat {name}'
+        capture = f'nbt-look --lines {name}' if name.endswith('.pcap') else f'cat {name}'
         rows = map(str.split, self.lines(f"{capture} | nbt replay {MOST} '{station}'"))
         return [[row[2], row[4], row[5]] for row in rows if row[1] == 'delivered']
 
     def table(self, name):
         """The saved table of a file, whose ticks say nothing there."""
-        capture = f'nbt-pcap2cap --no-ticks {name}' if name.endswith('.pcap') else f'grep -v ^tick {name}'
+        capture = f'nbt-look --lines --no-ticks {name}' if name.endswith('.pcap') else f'grep -v ^tick {name}'
         return self.bytes(f'{capture} | nbt save {MOST}')
 
     def keys(self, name):

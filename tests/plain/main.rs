@@ -13,6 +13,7 @@ mod names;
 mod replay;
 mod report;
 mod service;
+mod sessions;
 mod show;
 mod sum;
 mod tables;

@@ -1,7 +1,6 @@
 """Captures of datagrams in pieces, as frames and as the lines that nbt reads, with a plain model of which frames belong together."""
 import os
 import sys
-import types
 
 TESTS = os.path.join(os.path.dirname(os.path.abspath(__file__)), '..')
 sys.path[1:1] = [TESTS, os.path.join(TESTS, 'captures'), os.path.join(TESTS, '..', 'tools')]
@@ -10,7 +9,7 @@ from model.names import Refused, text_of
 from model.packets import MORE, read_fragment
 from nbt_look.shown import run_text
 from nbt_look.datagrams import runs_missing
-from nbt_pcap.capture import Capture, Output
+from nbt_pcap.ticks import Ticks
 from plugin_pcap import datagram_frame, segment_frame
 from wire import FRED, KEEPALIVE, QUERY
 
@@ -31,9 +30,8 @@ class Made:
         self.pieces = {}            # of those frames where the data begins and ends, and whether more was promised
         self.drops = []             # the frames before which the clock was looked at, and the moment that it showed
         self.names = set()          # to whom datagrams go
-        output = Output(quiet=True)
-        self.lines = output.lines
-        self.capture = Capture(output, types.SimpleNamespace(bare=True, no_ticks=not ticks))
+        self.lines = []
+        self.clock, self.has_ticks = Ticks(), ticks
         self.now = 0
         for each in self.payloads():
             self.add(*each)
@@ -58,10 +56,13 @@ class Made:
         self.frames.append((self.now, frame, 42 + rng.randrange(len(payload)) if cut else None))
         if cut:
             return
-        before = self.capture.ticks.next
-        self.capture.payload(port, (self.now - self.frames[0][0]) // 1_000 if self.now > self.frames[0][0] else 0, payload.hex(), None)
-        if self.capture.ticks.next != before:
-            self.drops.append((number, self.capture.ticks.next - 1_000))
+        before = self.clock.next
+        moment = (self.now - self.frames[0][0]) // 1_000 if self.now > self.frames[0][0] else 0
+        self.lines += [f'tick {at}' for at in (self.clock.until(moment) if self.has_ticks else ())]
+        self.lines.append(f"{port} {moment} {payload.hex() or 'empty'}")
+        self.clock.latest = max(self.clock.latest, moment)
+        if self.clock.next != before:
+            self.drops.append((number, self.clock.next - 1_000))
         if port == 138:
             self.datagrams[number] = len(self.lines)
             self.note(number, payload)

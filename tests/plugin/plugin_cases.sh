@@ -61,19 +61,17 @@ part_states() {
         "$room"/states/{pieces,sessions,office,samba}.pcap
 }
 
-# The tools print the same beside the plugin: they ask tshark for the bytes of these ports, nbt-look-tshark by the same words for all its forms.
+# The tool prints the same beside the plugin: it asks tshark for the bytes of these ports, by the same words for all its forms.
 part_tools() {
-    local tool kind
+    local kind
     with_tools "$program"
     mergecap -a -w "$room/both.pcap" "$room"/states/{office,samba}.pcap && chmod 644 "$room/both.pcap"
-    for tool in 'nbt-look-tshark --json' nbt-pcap2cap; do
-        for kind in with without; do
-            # The tools give tshark a home of their own.
-            PATH=$room/$kind:$room/bin:$PATH ended $tool "$room/both.pcap" >"$room/$kind-output" 2>&1
-        done
-        [ -s "$room/with-output" ] && cmp -s "$room/with-output" "$room/without-output"
-        count $? "$tool, with the plugin and without it"
+    for kind in with without; do
+        # The tool gives tshark a home of its own.
+        PATH=$room/$kind:$room/bin:$PATH ended nbt-look-tshark --json "$room/both.pcap" >"$room/$kind-output" 2>&1
     done
+    [ -s "$room/with-output" ] && cmp -s "$room/with-output" "$room/without-output"
+    count $? 'nbt-look-tshark --json, with the plugin and without it'
 }
 
 # places WORD..: where in its bytes the faults of marked.pcap are marked.

@@ -5,7 +5,7 @@ Usage: tests/plugin/plugin_states.py SHARKD PROGRAM FOLDER COUNT FILE..
 
 So many captures of fragments that are shuffled, lost, repeated and changed, with pauses, times that go back, packets of other kinds and
 ports and frames that are cut. All are read by one sharkd, which has the plugin, one after the other, for a station with names or for all,
-with the timer or without it; the program replays the same with the ticks of nbt-pcap2cap or without. Of each payload of port 138 the
+with the timer or without it; the program replays the same with the ticks of nbt-look --lines or without. Of each payload of port 138 the
 state, the key and the data have to be those of the report, and the links and what is missing those of a plain model. Of long data a
 column shows the front, and the frame's tree all. Then sharkd opens the files, in turn and back: it says the same of each as another one
 that opens it alone, also where names are none, and then one. A case is a capture or a file; the last line is 'N passed, M failed'.

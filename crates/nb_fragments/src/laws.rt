@@ -28,8 +28,7 @@ pub fn fragments_may_come_in_any_order()
         ≡ cover_at key ((live ++ other ∷ []) ++ one ∷ []) }
 {}
 
-/// A fragment of a packet that isn't whole, and one of a packet that was whole before, are told
-/// apart.
+/// No fragment has both answers: that its packet isn't whole yet, and that it was whole before.
 pub fn a_packet_is_whole_or_not()
     ensures { (before after : CoverValue) → IsTaken before after Again →
         IsTaken before after Kept → ⊥ }
